@@ -1,0 +1,80 @@
+-- "The code each command will get. Fixed at the walk, from the copied bytes." Document 01, under that heading.
+-- Assumes nothing.
+use Prim.Native.Nat.{ℕ, _+_, _*_, _/_, _%_}
+use mathlib.Core.Bool.{Bool, not, _&&_, _||_}
+use mathlib.Core.List.{List, [], _∷_}
+use lib.Dec.{ltb, eqb}
+use Rattle.meaning.specs.First.{firstOf, _↝_}
+use Rattle.meaning.specs.declared.Drive.{Drive}
+use Rattle.meaning.specs.Sectors.{sectorBytes, sectorCount, sectorNumber}
+use Rattle.meaning.specs.Fields as iopb
+use Rattle.meaning.specs.declared.Copied.{Copied}
+
+-- what the walk copies from the IOPB at a
+unfoldable pub copiedAt : List ℕ → ℕ → Copied
+copiedAt m a =
+    record {
+      byte0 = iopb.byteOf m a 0;
+      subfunction = iopb.subfunction m a;
+      unit = iopb.unit m a;
+      head = iopb.head m a;
+      sector = iopb.sector m a;
+      count = iopb.count m a;
+      cylinder = iopb.cylinder m a;
+      address = iopb.data-address m a;
+      next = iopb.next-address m a;
+    }
+
+-- the codes of No Operation, Write Data and Read Data
+abbrev pub nop : ℕ
+nop = 0
+
+abbrev pub write : ℕ
+write = 1
+
+abbrev pub read : ℕ
+read = 2
+
+-- bits of a copied byte 0: "bit 5 CHEN, bit 4 SGM, bits 3-0 command"
+abbrev pub commandIn : ℕ → ℕ
+commandIn byte0 = byte0 % 16
+
+abbrev pub chained : Copied → Bool
+chained c = eqb (iopb.bit 5 (c .byte0)) 1
+
+abbrev pub gathers : Copied → Bool
+gathers c = eqb (iopb.bit 4 (c .byte0)) 1
+
+abbrev pub odd : ℕ → Bool
+odd a = eqb (a % 2) 1
+
+-- the number of the command's first sector
+abbrev pub firstSector : Drive → Copied → ℕ
+firstSector d c = sectorNumber d (c .cylinder) (c .head) (c .sector)
+
+-- "The first that applies wins"; n is the length of memory
+unfoldable pub codeOf : Copied → Drive → ℕ → ℕ
+codeOf c d n =
+    firstOf
+    -- "CHEN set and next address odd (next alignment error)"
+    ((chained c && odd (c .next)) ↝ 0x1E
+    -- "command above 2, or SGM set, or byte 4 not zero"
+    ∷ (ltb read (commandIn (c .byte0)) || gathers c || not (eqb (c .subfunction) 0)) ↝ 0x14
+    -- "a No Operation that passed the two above"
+    ∷ eqb (commandIn (c .byte0)) nop ↝ 0x00
+    -- "unit not 0 (drive not ready)"
+    ∷ not (eqb (c .unit) 0) ↝ 0x42
+    -- "count zero"
+    ∷ eqb (c .count) 0 ↝ 0x13
+    -- "cylinder, then head, then sector above its maximum"
+    ∷ ltb (d .cylinder) (c .cylinder) ↝ 0x10
+    ∷ ltb (d .head) (c .head) ↝ 0x11
+    ∷ ltb (d .sector) (c .sector) ↝ 0x12
+    -- "first sector number + count is more than the drive has"
+    ∷ ltb (sectorCount d) (firstSector d c + c .count) ↝ 0x10
+    -- "Write Data and the drive is protected"
+    ∷ (eqb (commandIn (c .byte0)) write && d .protected) ↝ 0x90
+    -- "data address + 512 x count is past the end of memory (bus error)"
+    ∷ ltb n (c .address + sectorBytes * c .count) ↝ 0x4B
+    ∷ [])
+    0x00

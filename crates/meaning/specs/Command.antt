@@ -1,0 +1,37 @@
+-- What a record says of its command: its kind, its steps, whether it is finished. Document 01, the first sentences of
+-- "Steps, and when a command waits". Assumes nothing.
+use Prim.Native.Nat.{ℕ, _-_}
+use mathlib.Core.Bool.{Bool, _&&_, _||_, cond}
+use lib.Dec.{leb, eqb}
+use Rattle.meaning.specs.declared.Record.{Record}
+use Rattle.meaning.specs.Code.{commandIn, read, write}
+
+-- a Read Data with code 00
+abbrev pub reads : Record → Bool
+reads r = eqb (r .code) 0 && eqb (commandIn (r .byte0)) read
+
+-- a Write Data with code 00
+abbrev pub writes : Record → Bool
+writes r = eqb (r .code) 0 && eqb (commandIn (r .byte0)) write
+
+-- a transfer with code 00
+abbrev pub transfers : Record → Bool
+transfers r = reads r || writes r
+
+-- "A transfer with code 00 has as many steps as its count; every other command has one."
+unfoldable pub stepsOf : Record → ℕ
+stepsOf r = cond (transfers r) (r .count) 1
+
+-- no step is left
+unfoldable pub finished : Record → Bool
+unfolding stepsOf
+finished r = leb (stepsOf r) (r .taken)
+
+-- the steps that are left
+unfoldable pub remaining : Record → ℕ
+unfolding stepsOf
+remaining r = stepsOf r - r .taken
+
+-- what `getD` gives past the end of a table; no promise speaks of it
+abbrev pub noRecord : Record
+noRecord = record { iopb = 0; address = 0; sector = 0; taken = 0; count = 0; byte0 = 0; code = 0 }

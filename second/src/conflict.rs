@@ -1,0 +1,72 @@
+//! What each command reads and writes, as real sets of memory bytes and of
+//! sectors, and whether two commands conflict. Asked only of sound tables, so
+//! the sets are never larger than memory and drive.
+
+use crate::record::Record;
+use std::collections::BTreeSet;
+
+/// Everything that one command reads and writes, from its first step to its
+/// close, whatever steps it has taken already.
+#[derive(Clone, Debug, Default, PartialEq, Eq)]
+pub struct Touched {
+    pub memory_read: BTreeSet<u64>,
+    pub memory_written: BTreeSet<u64>,
+    pub sectors_read: BTreeSet<u64>,
+    pub sectors_written: BTreeSet<u64>,
+}
+
+/// The four status bytes of a command's own IOPB.
+pub fn status_bytes(record: &Record) -> BTreeSet<u64> {
+    let first = u64::from(record.iopb);
+    (first..first + 4).collect()
+}
+
+/// The data bytes of a transfer with code 00; none for any other command.
+pub fn data_bytes(record: &Record) -> BTreeSet<u64> {
+    if !record.is_transfer() {
+        return BTreeSet::new();
+    }
+    let first = u64::from(record.data);
+    (first..first + record.data_bytes()).collect()
+}
+
+/// The sectors of a transfer with code 00; none for any other command.
+pub fn sectors(record: &Record) -> BTreeSet<u64> {
+    if !record.is_transfer() {
+        return BTreeSet::new();
+    }
+    let first = u64::from(record.sector);
+    (first..first + u64::from(record.count)).collect()
+}
+
+/// The four sets of a command.
+pub fn touched(record: &Record) -> Touched {
+    let mut sets = Touched::default();
+    if record.reads_sectors() {
+        sets.sectors_read = sectors(record);
+        sets.memory_written = data_bytes(record);
+    }
+    if record.writes_sectors() {
+        sets.memory_read = data_bytes(record);
+        sets.sectors_written = sectors(record);
+    }
+    sets.memory_written.extend(status_bytes(record));
+    sets
+}
+
+/// One of the two writes a byte or sector that the other reads or writes.
+pub fn conflict(one: &Touched, other: &Touched) -> bool {
+    writes_into(one, other) || writes_into(other, one)
+}
+
+fn writes_into(writer: &Touched, other: &Touched) -> bool {
+    meet(&writer.memory_written, &other.memory_read)
+        || meet(&writer.memory_written, &other.memory_written)
+        || meet(&writer.sectors_written, &other.sectors_read)
+        || meet(&writer.sectors_written, &other.sectors_written)
+}
+
+/// Two sets have something in common.
+pub fn meet(one: &BTreeSet<u64>, other: &BTreeSet<u64>) -> bool {
+    !one.is_disjoint(other)
+}

@@ -1,0 +1,116 @@
+//! The record of one accepted command, and what makes a table unsound
+//! (number 9).
+
+use crate::board::{Board, SECTOR_BYTES};
+use crate::iopb::IOPB_BYTES;
+use std::collections::BTreeSet;
+
+/// The most commands that a table may have.
+pub const MOST_COMMANDS: u64 = 32;
+
+/// What the walk copies from one IOPB, its code, and the steps taken so far.
+#[derive(Clone, Copy, Debug, Default, PartialEq, Eq)]
+pub struct Record {
+    pub iopb: u32,
+    pub data: u32,
+    pub sector: u32,
+    pub taken: u32,
+    pub count: u16,
+    pub byte0: u8,
+    pub code: u8,
+}
+
+impl Record {
+    pub fn command(&self) -> u8 {
+        self.byte0 & 0x0F
+    }
+
+    /// A Write Data with code 00.
+    pub fn writes_sectors(&self) -> bool {
+        self.code == 0 && self.command() == 1
+    }
+
+    /// A Read Data with code 00.
+    pub fn reads_sectors(&self) -> bool {
+        self.code == 0 && self.command() == 2
+    }
+
+    /// A transfer with code 00. A code 00 with any other command is none.
+    pub fn is_transfer(&self) -> bool {
+        self.writes_sectors() || self.reads_sectors()
+    }
+
+    pub fn steps(&self) -> u64 {
+        if self.is_transfer() {
+            u64::from(self.count)
+        } else {
+            1
+        }
+    }
+
+    pub fn finished(&self) -> bool {
+        u64::from(self.taken) == self.steps()
+    }
+
+    /// The steps that remain. Asked only of a sound table.
+    pub fn remaining(&self) -> u64 {
+        self.steps() - u64::from(self.taken)
+    }
+
+    /// The bytes of all the sectors that the command names.
+    pub fn data_bytes(&self) -> u64 {
+        SECTOR_BYTES * u64::from(self.count)
+    }
+}
+
+/// Each thing that makes a table unsound.
+#[derive(Clone, Copy, Debug, PartialEq, Eq, PartialOrd, Ord)]
+pub enum Cause {
+    OverThirtyTwo,
+    IopbOutside,
+    TakenAbove,
+    CountZero,
+    DataOutside,
+    SectorsOutside,
+    WriteProtected,
+}
+
+/// Every cause of number 9 in the table; number 9 is given exactly where
+/// there is one. Only records in use are looked at.
+pub fn causes(board: &Board, table: &[Record], commands: u64) -> BTreeSet<Cause> {
+    let mut found = BTreeSet::new();
+    if commands > MOST_COMMANDS {
+        found.insert(Cause::OverThirtyTwo);
+        return found;
+    }
+    for record in &table[..commands as usize] {
+        causes_in_record(board, record, &mut found);
+    }
+    found
+}
+
+fn causes_in_record(board: &Board, record: &Record, found: &mut BTreeSet<Cause>) {
+    if !board.in_memory(u64::from(record.iopb), IOPB_BYTES) {
+        found.insert(Cause::IopbOutside);
+    }
+    if u64::from(record.taken) > record.steps() {
+        found.insert(Cause::TakenAbove);
+    }
+    // The rest is asked of code 00 transfers only: nothing else moves.
+    if !record.is_transfer() {
+        return;
+    }
+    if record.count == 0 {
+        found.insert(Cause::CountZero);
+    }
+    if !board.in_memory(u64::from(record.data), record.data_bytes()) {
+        found.insert(Cause::DataOutside);
+    }
+    let past_last = u64::from(record.sector) + u64::from(record.count);
+    if past_last > board.drive.number_of_sectors() {
+        found.insert(Cause::SectorsOutside);
+    }
+    if record.writes_sectors() && board.drive.protected {
+        found.insert(Cause::WriteProtected);
+    }
+}

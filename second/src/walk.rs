@@ -1,0 +1,77 @@
+//! The walk: from a first address along the chain, copying what is needed of
+//! every IOPB into the table before anything moves.
+
+use crate::board::Board;
+use crate::code::{code_of, next_misaligned};
+use crate::iopb::{fields_at, Fields, IOPB_BYTES};
+use crate::record::{Record, MOST_COMMANDS};
+use std::collections::BTreeSet;
+
+/// What a walk answers. `reached` has the address of every IOPB that the walk
+/// came to, the refused one last; only those who count need it.
+#[derive(Clone, Debug, PartialEq, Eq)]
+pub struct WalkReply {
+    pub number: u8,
+    pub commands: u64,
+    pub reached: Vec<u64>,
+}
+
+/// Walks the chain. The table is the lent run of records: records past the
+/// last command, and all of them on a refusal, are left alone.
+pub fn walk(board: &Board, table: &mut [Record], start: u64) -> WalkReply {
+    let mut reached = Vec::new();
+    if !board.sizes_right() || (table.len() as u64) < MOST_COMMANDS {
+        return WalkReply { number: 1, commands: 0, reached };
+    }
+    match follow(board, start, &mut reached) {
+        Err(number) => WalkReply { number, commands: 0, reached },
+        Ok(records) => {
+            table[..records.len()].copy_from_slice(&records);
+            WalkReply { number: 0, commands: records.len() as u64, reached }
+        }
+    }
+}
+
+fn follow(board: &Board, start: u64, reached: &mut Vec<u64>) -> Result<Vec<Record>, u8> {
+    if start % 2 == 1 {
+        return Err(2);
+    }
+    let mut records = Vec::new();
+    // Every byte of every IOPB of the chain so far.
+    let mut covered = BTreeSet::new();
+    let mut address = start;
+    loop {
+        if records.len() as u64 == MOST_COMMANDS {
+            return Err(5);
+        }
+        reached.push(address);
+        if !board.in_memory(address, IOPB_BYTES) {
+            return Err(3);
+        }
+        for byte in address..address + IOPB_BYTES {
+            if !covered.insert(byte) {
+                return Err(4);
+            }
+        }
+        let fields = fields_at(board, address);
+        records.push(record_of(board, address, &fields));
+        if fields.chen == 0 || next_misaligned(&fields) {
+            return Ok(records);
+        }
+        address = fields.next;
+    }
+}
+
+fn record_of(board: &Board, address: u64, fields: &Fields) -> Record {
+    let drive = &board.drive;
+    let sector = drive.sector_number(fields.cylinder, fields.head, fields.sector);
+    Record {
+        iopb: address as u32,
+        data: fields.data as u32,
+        sector: u32::try_from(sector).expect("a drive of the image's size keeps it in 32 bits"),
+        taken: 0,
+        count: fields.count as u16,
+        byte0: board.memory[address as usize],
+        code: code_of(board, fields),
+    }
+}
