@@ -22,6 +22,15 @@ struct Transfer {
     count: u64,
 }
 
+/// What the transfers of a chain are laid against. `near` is how many in a
+/// hundred are laid beside or over another command's things.
+struct Lay<'a> {
+    memory: u64,
+    sectors: u64,
+    addresses: &'a [u64],
+    near: u64,
+}
+
 /// A random chain for a board. In a memory too small for an IOPB there is
 /// none, and the start is anywhere.
 pub fn random_chain(rng: &mut Rng, board: &Board) -> Chain {
@@ -79,10 +88,17 @@ fn places(rng: &mut Rng, memory: u64, wanted: u64) -> Vec<u64> {
 pub fn commands(rng: &mut Rng, board: &Board, addresses: &[u64]) -> Vec<Block> {
     let mut earlier: Vec<Transfer> = Vec::new();
     let mut blocks = Vec::new();
-    // Some chains are nearly all spoiled, most hardly at all.
+    // Some chains are nearly all spoiled, most hardly at all; some have their
+    // commands well apart, some all in a heap.
     let faults = rng.one_of(&[0, 5, 15, 15, 60]);
+    let lay = Lay {
+        memory: board.memory_bytes(),
+        sectors: board.drive.number_of_sectors(),
+        addresses,
+        near: rng.one_of(&[0, 25, 60, 90]),
+    };
     for _ in addresses {
-        let transfer = transfer(rng, board, addresses, &earlier);
+        let transfer = transfer(rng, &lay, &earlier);
         let command = rng.one_of(&[0, 1, 1, 1, 1, 2, 2, 2, 2]);
         let mut block = block_for(rng, board, command, &transfer);
         if rng.percent(faults) {
@@ -111,24 +127,23 @@ fn block_for(rng: &mut Rng, board: &Board, command: u8, transfer: &Transfer) -> 
         .next_address(next)
 }
 
-fn transfer(rng: &mut Rng, board: &Board, addresses: &[u64], earlier: &[Transfer]) -> Transfer {
-    let sectors = board.drive.number_of_sectors();
-    let fit = sectors.min(board.memory_bytes() / SECTOR_BYTES).max(1);
+fn transfer(rng: &mut Rng, lay: &Lay, earlier: &[Transfer]) -> Transfer {
+    let fit = lay.sectors.min(lay.memory / SECTOR_BYTES).max(1);
     let wanted = match rng.below(100) {
-        0..=59 => 1,
-        60..=79 => rng.between(1, 3),
-        80..=96 => rng.between(1, 8),
+        0..=44 => 1,
+        45..=76 => rng.between(1, 3),
+        77..=96 => rng.between(1, 8),
         _ => rng.between(1, fit),
     };
     let count = wanted.min(fit);
-    let sector = first_sector(rng, sectors, count, earlier);
-    let data = data_address(rng, board.memory_bytes(), count * SECTOR_BYTES, addresses, earlier);
+    let sector = first_sector(rng, lay, count, earlier);
+    let data = data_address(rng, lay, count * SECTOR_BYTES, earlier);
     Transfer { data, sector, count }
 }
 
-fn first_sector(rng: &mut Rng, sectors: u64, count: u64, earlier: &[Transfer]) -> u64 {
-    let last = sectors - count.min(sectors);
-    if earlier.is_empty() || rng.percent(45) {
+fn first_sector(rng: &mut Rng, lay: &Lay, count: u64, earlier: &[Transfer]) -> u64 {
+    let last = lay.sectors - count.min(lay.sectors);
+    if earlier.is_empty() || !rng.percent(lay.near) {
         return if rng.once_in(6) { last } else { rng.between(0, last) };
     }
     let other = rng.one_of(earlier);
@@ -138,21 +153,14 @@ fn first_sector(rng: &mut Rng, sectors: u64, count: u64, earlier: &[Transfer]) -
     rng.one_of(&near).min(last)
 }
 
-fn data_address(
-    rng: &mut Rng,
-    memory: u64,
-    bytes: u64,
-    addresses: &[u64],
-    earlier: &[Transfer],
-) -> u64 {
-    let last = memory.saturating_sub(bytes);
-    let address = match rng.below(100) {
-        0..=29 => rng.between(0, last),
-        30..=34 => 0,
-        35..=42 => last,
-        43..=69 => near_status(rng, bytes, addresses),
-        _ if earlier.is_empty() => rng.between(0, last),
-        _ => near_data(rng, bytes, earlier),
+fn data_address(rng: &mut Rng, lay: &Lay, bytes: u64, earlier: &[Transfer]) -> u64 {
+    let last = lay.memory.saturating_sub(bytes);
+    let address = if !rng.percent(lay.near) {
+        if rng.once_in(8) { last } else { rng.between(0, last) }
+    } else if earlier.is_empty() || rng.percent(45) {
+        near_status(rng, bytes, lay.addresses)
+    } else {
+        near_data(rng, bytes, earlier)
     };
     address.min(last)
 }

@@ -1,26 +1,26 @@
 //! Streams of cases: reads lines, plays them, and prints or counts answers.
 
+use crate::command_line::Trouble;
 use crate::line::Line;
 use crate::state::State;
 use crate::tally::Tally;
 use std::io::{BufRead, Write};
 
 /// Plays every line and prints what it answers.
-pub fn run_cases(input: impl BufRead, mut out: impl Write) -> Result<(), String> {
+pub fn run_cases(input: impl BufRead, mut out: impl Write) -> Result<(), Trouble> {
     let mut state = State::default();
     for (number, text) in input.lines().enumerate() {
-        let answer = line_of(number, text).and_then(|line| {
-            state.play(&line).map_err(|error| at(number, &error))
-        })?;
+        let line = line_of(number, text)?;
+        let answer = state.play(&line).map_err(|error| at(number, &error))?;
         for line in answer.lines(&state) {
-            writeln!(out, "{line}").map_err(|error| error.to_string())?;
+            writeln!(out, "{line}")?;
         }
     }
-    out.flush().map_err(|error| error.to_string())
+    Ok(())
 }
 
 /// Plays every line and counts what came up.
-pub fn count_cases(input: impl BufRead) -> Result<Tally, String> {
+pub fn count_cases(input: impl BufRead) -> Result<Tally, Trouble> {
     let mut state = State::default();
     let mut tally = Tally::new();
     for (number, text) in input.lines().enumerate() {
@@ -32,11 +32,11 @@ pub fn count_cases(input: impl BufRead) -> Result<Tally, String> {
     Ok(tally)
 }
 
-fn line_of(number: usize, text: std::io::Result<String>) -> Result<Line, String> {
+fn line_of(number: usize, text: std::io::Result<String>) -> Result<Line, Trouble> {
     let text = text.map_err(|error| at(number, &error.to_string()))?;
     Line::read(&text).map_err(|error| at(number, &error))
 }
 
-fn at(number: usize, error: &str) -> String {
-    format!("line {}: {error}", number + 1)
+fn at(number: usize, error: &str) -> Trouble {
+    Trouble::Met(format!("line {}: {error}", number + 1))
 }

@@ -26,6 +26,7 @@ const LOOP: &str = "refused 4: a loop";
 const OVERLAP: &str = "refused 4: an overlap, no loop";
 const ODD_CHAINED: &str = "odd next address, CHEN set";
 const ODD_ALONE: &str = "odd next address, CHEN clear";
+const PASSED: &str = "step past an unfinished command";
 
 /// The rows in the order in which they are printed.
 pub struct Tally {
@@ -70,8 +71,8 @@ impl Tally {
             Answer::Walk { word, reply } => self.see_walk(state, word, reply),
             Answer::Pick { word, number } => {
                 self.add(&format!("{word} {number}"));
-                if let (6, Line::Pick(place) | Line::LentPick(place)) = (*number, line) {
-                    self.see_conflict(before, *place as usize);
+                if let Line::Pick(place) | Line::LentPick(place) = line {
+                    self.see_pick(before, *place, *number);
                 }
                 self.see_causes(state, *number);
             }
@@ -128,11 +129,21 @@ impl Tally {
         let mut table = before.to_vec();
         for (place, number) in places.iter().zip(numbers) {
             self.add(&format!("pick in a list {number}"));
-            match number {
-                0 => table[usize::from(*place)].taken += 1,
-                6 => self.see_conflict(&table, usize::from(*place)),
-                _ => {}
+            self.see_pick(&table, u64::from(*place), *number);
+            if *number == 0 {
+                table[usize::from(*place)].taken += 1;
             }
+        }
+    }
+
+    /// A pick with its number, and the table as the pick met it.
+    fn see_pick(&mut self, table: &[Record], place: u64, number: u8) {
+        match number {
+            0 if table[..place as usize].iter().any(|record| !record.finished()) => {
+                self.add(PASSED);
+            }
+            6 => self.see_conflict(table, place as usize),
+            _ => {}
         }
     }
 
@@ -217,6 +228,7 @@ fn all_names() -> Vec<String> {
     names.extend(CODES.iter().map(|code| format!("code {code:02X}")));
     names.extend(KINDS.iter().map(|kind| format!("conflict {kind}")));
     names.extend(KINDS.iter().map(|kind| format!("conflict {kind} alone")));
+    names.push(PASSED.to_string());
     names.extend((1..=MOST_COMMANDS).map(|length| format!("chain of {length}")));
     names.extend([LOOP, OVERLAP, ODD_CHAINED, ODD_ALONE].map(String::from));
     names.extend(CAUSES.iter().map(|(_, name)| format!("refused 9: {name}")));

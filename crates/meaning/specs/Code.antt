@@ -4,7 +4,7 @@ use Prim.Native.Nat.{ℕ, _+_, _*_, _/_, _%_}
 use mathlib.Core.Bool.{Bool, not, _&&_, _||_}
 use mathlib.Core.List.{List, [], _∷_}
 use lib.Dec.{ltb, eqb}
-use Rattle.meaning.specs.First.{firstOf, _↝_}
+use Rattle.meaning.specs.First.{Row, firstOf, _↝_}
 use Rattle.meaning.specs.declared.Drive.{Drive}
 use Rattle.meaning.specs.Sectors.{sectorBytes, sectorCount, sectorNumber}
 use Rattle.meaning.specs.Fields as iopb
@@ -52,12 +52,11 @@ odd a = eqb (a % 2) 1
 abbrev pub firstSector : Drive → Copied → ℕ
 firstSector d c = sectorNumber d (c .cylinder) (c .head) (c .sector)
 
--- "The first that applies wins"; n is the length of memory
-unfoldable pub codeOf : Copied → Drive → ℕ → ℕ
-codeOf c d n =
-    firstOf
+-- 01's table, row by row; n is the length of memory
+abbrev pub codeRows : Copied → Drive → ℕ → List Row
+codeRows c d n =
     -- "CHEN set and next address odd (next alignment error)"
-    ((chained c && odd (c .next)) ↝ 0x1E
+    (chained c && odd (c .next)) ↝ 0x1E
     -- "command above 2, or SGM set, or byte 4 not zero"
     ∷ (ltb read (commandIn (c .byte0)) || gathers c || not (eqb (c .subfunction) 0)) ↝ 0x14
     -- "a No Operation that passed the two above"
@@ -76,5 +75,8 @@ codeOf c d n =
     ∷ (eqb (commandIn (c .byte0)) write && d .protected) ↝ 0x90
     -- "data address + 512 x count is past the end of memory (bus error)"
     ∷ ltb n (c .address + sectorBytes * c .count) ↝ 0x4B
-    ∷ [])
-    0x00
+    ∷ []
+
+-- "The first that applies wins"; "00 otherwise"
+unfoldable pub codeOf : Copied → Drive → ℕ → ℕ
+codeOf c d n = firstOf (codeRows c d n) 0x00

@@ -1,0 +1,123 @@
+// What the walk copies from an IOPB, and the code that its command will get: document 01's table, the first that applies.
+use meaning::Copied;
+use meaning::Drive;
+ghost use mathlib.Core.Path.{_≡_};
+ghost use Prim.Native.Nat.{_+_, _*_};
+ghost use mathlib.Core.Bool.{not, _&&_, _||_};
+ghost use lib.Dec.{ltb, eqb};
+ghost use Rattle.meaning.specs.Sectors.{sectorBytes, sectorCount};
+ghost use Rattle.meaning.specs.Code.{copiedAt, codeOf, chained, odd, gathers, commandIn, read, write, firstSector};
+
+// The fields of the IOPB that the walk keeps.
+pub fn copied(memory: &[u8], at: u32) -> Copied
+    ensures { λ r. ⌜ r ≡ copiedAt (now (memory .entry)) at ⌝ }
+{
+    Copied {
+        byte0: iopb::byte0(memory, at),
+        subfunction: iopb::subfunction(memory, at),
+        unit: iopb::unit(memory, at),
+        head: iopb::head(memory, at),
+        sector: iopb::sector(memory, at),
+        count: iopb::count(memory, at),
+        cylinder: iopb::cylinder(memory, at),
+        address: iopb::data_address(memory, at),
+        next: iopb::next_address(memory, at),
+    }
+}
+
+// CHEN set and the next address odd.
+pub(crate) fn misaligned(c: Copied) -> bool
+    ensures { λ r. ⌜ r ≡ (chained c && odd (c .next)) ⌝ }
+{
+    if c.byte0 / 32 % 2 != 1 {
+        return false;
+    }
+    c.next % 2 == 1
+}
+
+// A command above 2, or SGM set, or byte 4 not zero.
+fn unimplemented(c: Copied) -> bool
+    ensures { λ r. ⌜ r ≡ (ltb read (commandIn (c .byte0)) || gathers c || not (eqb (c .subfunction) 0)) ⌝ }
+{
+    if 2 < c.byte0 % 16 {
+        return true;
+    }
+    if c.byte0 / 16 % 2 == 1 {
+        return true;
+    }
+    c.subfunction != 0
+}
+
+// The number of the command's first sector.
+pub(crate) fn first_sector(c: Copied, d: Drive) -> u32
+    ensures { λ r. ⌜ r ≡ firstSector d c ⌝ }
+{
+    drive::sector_number(d, c.cylinder, c.head, c.sector)
+}
+
+// The first sector number + count is more than the drive has.
+fn past_drive(c: Copied, d: Drive) -> bool
+    ensures { λ r. ⌜ r ≡ ltb (sectorCount d) (firstSector d c + c .count) ⌝ }
+{
+    let end = first_sector(c, d) as u64 + c.count as u64;
+    let count = drive::sectors(d).0;
+    count < end
+}
+
+// Write Data and the drive is protected.
+fn forbidden(c: Copied, d: Drive) -> bool
+    ensures { λ r. ⌜ r ≡ (eqb (commandIn (c .byte0)) write && d .protected) ⌝ }
+{
+    if c.byte0 % 16 != 1 {
+        return false;
+    }
+    d.protected
+}
+
+// The data address + 512 x count is past the end of memory.
+fn past_memory(c: Copied, memory: u64) -> bool
+    ensures { λ r. ⌜ r ≡ ltb memory (c .address + sectorBytes * c .count) ⌝ }
+{
+    let end = c.address as u64 + drive::SECTOR_BYTES * c.count as u64;
+    memory < end
+}
+
+// The code that a command will get; memory is its length.
+pub fn code(c: Copied, d: Drive, memory: u64) -> u8
+    ensures { λ r. ⌜ r ≡ codeOf c d memory ⌝ }
+{
+    if misaligned(c) {
+        return 0x1E;
+    }
+    if unimplemented(c) {
+        return 0x14;
+    }
+    if c.byte0 % 16 == 0 {
+        return 0x00;
+    }
+    if c.unit != 0 {
+        return 0x42;
+    }
+    if c.count == 0 {
+        return 0x13;
+    }
+    if d.cylinder < c.cylinder {
+        return 0x10;
+    }
+    if d.head < c.head {
+        return 0x11;
+    }
+    if d.sector < c.sector {
+        return 0x12;
+    }
+    if past_drive(c, d) {
+        return 0x10;
+    }
+    if forbidden(c, d) {
+        return 0x90;
+    }
+    if past_memory(c, memory) {
+        return 0x4B;
+    }
+    0x00
+}

@@ -1,0 +1,118 @@
+// The walk: from a first address along the chain, each IOPB copied into the table before anything moves.
+use crate::code;
+use crate::sizes;
+use meaning::Copied;
+use meaning::Drive;
+use meaning::Record;
+use meaning::Walked;
+ghost use mathlib.Core.Path.{_≡_};
+ghost use mathlib.Core.List.{[]};
+ghost use Rattle.meaning.specs.Each.{someOf};
+ghost use Rattle.meaning.specs.Walk.{Chain, recordOf, goesOn, shares, follow, reply, walkOf};
+
+// The most commands that a chain may have.
+pub const MOST_COMMANDS: usize = 32;
+
+// A command's record, with no step taken yet.
+fn record_of(c: Copied, at: u32, d: Drive, memory: u64) -> Record
+    ensures { λ r. ⌜ r ≡ recordOf c at d memory ⌝ }
+{
+    Record {
+        iopb: at,
+        address: c.address,
+        sector: code::first_sector(c, d),
+        taken: 0,
+        count: c.count,
+        byte0: c.byte0,
+        code: code::code(c, d, memory),
+    }
+}
+
+// CHEN is set and the next address is even: another follows.
+fn goes_on(c: Copied) -> bool
+    ensures { λ r. ⌜ r ≡ goesOn c ⌝ }
+{
+    if c.byte0 / 32 % 2 != 1 {
+        return false;
+    }
+    c.next % 2 != 1
+}
+
+// The thirty bytes at a and at b have one in common.
+fn share(a: u32, b: u32) -> bool
+    ensures { λ r. ⌜ r ≡ shares a b ⌝ }
+{
+    if a as u64 >= b as u64 + 30 {
+        return false;
+    }
+    (b as u64) < a as u64 + 30
+}
+
+// Some IOPB at one of these addresses shares a byte with the one at b.
+fn shares_any(addresses: &[u32], b: u32) -> bool
+    ensures { λ r. ⌜ r ≡ someOf (λ a. shares a b) (now (addresses .entry)) ⌝ }
+{
+    let mut k = 0;
+    while k < addresses.len() {
+        if share(addresses[k], b) {
+            return true;
+        }
+        k += 1;
+    }
+    false
+}
+
+// From the first IOPB on: each is tested, 5, 3, 4 in turn, and copied, until one ends the chain.
+fn follow_chain(memory: &[u8], d: Drive, start: u32, table: [Record; 32]) -> Walked
+    ensures { λ r. ⌜ r ≡ reply (follow 32 (now (memory .entry)) d [] start) table ⌝ }
+{
+    let mut filled = table;
+    let mut addresses = [0u32; 32];
+    let mut n: usize = 0;
+    let mut at = start;
+    while n < MOST_COMMANDS {
+        if !iopb::all_in(memory, at) {
+            return refused(3, table);
+        }
+        if shares_any(&addresses[..n], at) {
+            return refused(4, table);
+        }
+        let c = code::copied(memory, at);
+        filled[n] = record_of(c, at, d, memory.len() as u64);
+        addresses[n] = at;
+        n += 1;
+        if !goes_on(c) {
+            return Walked {
+                number: 0,
+                commands: n,
+                table: filled,
+            };
+        }
+        at = c.next;
+    }
+    refused(5, table)
+}
+
+// A refusal: its number, no commands, and the table as it was.
+fn refused(number: u8, table: [Record; 32]) -> Walked
+    ensures { λ r. ⌜ r ≡ reply (Chain.refused number) table ⌝ }
+{
+    Walked {
+        number,
+        commands: 0,
+        table,
+    }
+}
+
+// The walk: 1, 2, then at each IOPB in turn 5, 3, 4; on 0 the table is filled, on a refusal nothing is changed.
+pub fn walk(memory: &[u8], image: &[u8], d: Drive, start: u32, table: [Record; 32]) -> Walked
+    ensures { λ r. ⌜ r ≡ walkOf (now (memory .entry)) (now (image .entry)) d start table ⌝ }
+{
+    if sizes::sizes_wrong(memory, image, d) {
+        return refused(1, table);
+    }
+    if start % 2 == 1 {
+        return refused(2, table);
+    }
+    follow_chain(memory, d, start, table)
+}

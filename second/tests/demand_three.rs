@@ -1,0 +1,191 @@
+//! Random chains against what document 01 demands of any order of steps:
+//! whatever is picked, the rest done as written ends as the whole chain does.
+
+use second::board::{Board, Drive};
+use second::chain::random_chain;
+use second::pick::pick;
+use second::record::Record;
+use second::rng::Rng;
+use second::run::{all_finished, run_picks, run_written};
+use second::walk::walk;
+
+const CHAINS: u64 = 10_000;
+
+type Table = [Record; 32];
+
+/// A chain that the walk has accepted.
+struct Walked {
+    board: Board,
+    table: Table,
+    commands: u64,
+}
+
+fn random_board(rng: &mut Rng) -> Board {
+    let drive = Drive {
+        max_cylinder: rng.below(4) as u16,
+        max_head: rng.below(3) as u8,
+        max_sector: rng.below(6) as u8,
+        protected: rng.percent(8),
+    };
+    let image = rng.bytes(512 * drive.number_of_sectors());
+    let length = rng.between(512, 6_000);
+    Board { memory: rng.bytes(length), image, drive }
+}
+
+/// The next accepted chain; refused ones are left out.
+fn next_chain(rng: &mut Rng) -> Walked {
+    loop {
+        let mut board = random_board(rng);
+        let chain = random_chain(rng, &board);
+        for (address, block) in &chain.blocks {
+            let at = *address as usize;
+            board.memory[at..at + 30].copy_from_slice(&block.bytes);
+        }
+        let mut table = [Record::default(); 32];
+        let reply = walk(&board, &mut table, chain.start);
+        if reply.number == 0 {
+            return Walked { board, table, commands: reply.commands };
+        }
+    }
+}
+
+fn random_picks(rng: &mut Rng, commands: u64) -> Vec<u8> {
+    let length = rng.below(4 * commands + 8);
+    (0..length).map(|_| rng.below(commands + 2) as u8).collect()
+}
+
+fn sum_of_steps(table: &Table, commands: u64) -> u64 {
+    table[..commands as usize].iter().map(Record::steps).sum()
+}
+
+#[test]
+fn any_picks_then_as_written_end_alike() {
+    let mut rng = Rng::new(31);
+    for _ in 0..CHAINS {
+        let Walked { mut board, mut table, commands } = next_chain(&mut rng);
+        let sum = sum_of_steps(&table, commands);
+        let mut whole_board = board.clone();
+        let mut whole_table = table;
+        let whole = run_written(&mut whole_board, &mut whole_table, commands, u64::MAX);
+        assert_eq!((whole.number, whole.steps, whole.finished), (0, sum, true));
+
+        let list = random_picks(&mut rng, commands);
+        let by_picks = run_picks(&mut board, &mut table, commands, &list);
+        assert_eq!(by_picks.number, 0);
+        assert_eq!(by_picks.steps + by_picks.refused, list.len() as u64);
+        assert_eq!(by_picks.finished, by_picks.steps == sum);
+
+        let rest = run_written(&mut board, &mut table, commands, u64::MAX);
+        assert!(rest.finished);
+        assert_eq!(by_picks.steps + rest.steps, sum);
+        assert_eq!(board, whole_board);
+        assert_eq!(table, whole_table);
+    }
+}
+
+#[test]
+fn single_picks_keep_their_promises() {
+    let mut rng = Rng::new(32);
+    for _ in 0..CHAINS {
+        let Walked { mut board, mut table, commands } = next_chain(&mut rng);
+        let sum = sum_of_steps(&table, commands);
+        let mut accepted = 0;
+        for _ in 0..6 {
+            let place = rng.below(commands + 2);
+            let before = (board.clone(), table);
+            let number = pick(&mut board, &mut table, commands, place);
+            if number == 0 {
+                accepted += 1;
+                assert_eq!(table[place as usize].taken, before.1[place as usize].taken + 1);
+            } else {
+                assert_eq!((board.clone(), table), before, "a refused pick changes no byte");
+            }
+        }
+        // The earliest unfinished command is never kept waiting.
+        while !all_finished(&table[..commands as usize]) {
+            let earliest = table.iter().position(|record| !record.finished()).unwrap();
+            assert_eq!(pick(&mut board, &mut table, commands, earliest as u64), 0);
+            accepted += 1;
+        }
+        assert_eq!(accepted, sum);
+    }
+}
+
+#[test]
+fn refused_calls_change_no_byte() {
+    let mut rng = Rng::new(33);
+    for _ in 0..2_000 {
+        let Walked { mut board, mut table, commands } = next_chain(&mut rng);
+        let list = random_picks(&mut rng, commands);
+        run_picks(&mut board, &mut table, commands, &list[..list.len() / 2]);
+        if rng.percent(50) {
+            table[rng.below(commands) as usize].taken = u32::MAX;
+        } else {
+            board.drive.max_cylinder += 1;
+        }
+        let before = (board.clone(), table);
+        assert_ne!(pick(&mut board, &mut table, commands, 0), 0);
+        let by_picks = run_picks(&mut board, &mut table, commands, &list);
+        assert_ne!(by_picks.number, 0);
+        assert_eq!((by_picks.steps, by_picks.refused, by_picks.finished), (0, 0, false));
+        let written = run_written(&mut board, &mut table, commands, u64::MAX);
+        assert_ne!(written.number, 0);
+        assert_eq!((written.steps, written.finished), (0, false));
+        assert_ne!(walk(&board, &mut table, 1).number, 0);
+        assert_eq!((board, table), before);
+    }
+}
+
+/// Each sector as last written by a step of a chain, if it was.
+type Written = Vec<Option<Vec<u8>>>;
+
+/// Takes one step as written, and holds a read against what was last written.
+/// Gives whether there was anything to hold it against.
+fn step_and_compare(walked: &mut Walked, written: &mut Written) -> bool {
+    let Walked { board, table, commands } = walked;
+    let place = table.iter().position(|record| !record.finished()).unwrap();
+    let record = table[place];
+    let step = record.taken as usize;
+    let from = record.data as usize + 512 * step;
+    let sector = record.sector as usize + step;
+    if record.writes_sectors() {
+        written[sector] = Some(board.memory[from..from + 512].to_vec());
+    }
+    assert_eq!(run_written(board, table, *commands, 1).steps, 1);
+    if !record.reads_sectors() {
+        return false;
+    }
+    let Some(expected) = &written[sector] else {
+        return false;
+    };
+    let closed = table[place].finished();
+    let status = record.iopb as usize..record.iopb as usize + 4;
+    for (k, byte) in expected.iter().enumerate() {
+        // Its own close may lie over the data that it has just read.
+        if !(closed && status.contains(&(from + k))) {
+            assert_eq!(board.memory[from + k], *byte);
+        }
+    }
+    true
+}
+
+#[test]
+fn a_sector_reads_back_as_it_was_written() {
+    let mut rng = Rng::new(34);
+    let mut compared = 0;
+    for _ in 0..CHAINS {
+        let mut walked = next_chain(&mut rng);
+        let sectors = walked.board.drive.number_of_sectors() as usize;
+        let mut written: Written = vec![None; sectors];
+        while !all_finished(&walked.table[..walked.commands as usize]) {
+            compared += u64::from(step_and_compare(&mut walked, &mut written));
+        }
+        // Looked at in the end, every sector is as it was last written.
+        for (sector, bytes) in written.iter().enumerate() {
+            if let Some(bytes) = bytes {
+                assert_eq!(second::look::look(&walked.board, sector as u64), bytes.as_slice());
+            }
+        }
+    }
+    assert!(compared > 1_000, "only {compared} reads had anything to compare");
+}

@@ -1,0 +1,89 @@
+//! The makers: every line is in the format, the seed decides everything, and
+//! nothing that is counted stays at zero.
+
+use second::decks::{deck_case, random_deck};
+use second::digest::digest;
+use second::line::Line;
+use second::lines::all_lines;
+use second::maker::random_case;
+use second::stream::{count_cases, run_cases};
+
+fn cases(seed: u64, number: u64) -> String {
+    (0..number).map(|n| random_case(seed, n).text()).collect()
+}
+
+fn deck_cases(seed: u64, number: u64) -> String {
+    (0..number).map(|n| deck_case(seed, n)).collect()
+}
+
+#[test]
+fn digests_by_hand() {
+    assert_eq!(digest(&[]), 0x811C_9DC5);
+    assert_eq!(digest(&[0]), 0x050C_5D1F);
+    assert_eq!(digest(&[1]), 0x060C_5EB2);
+}
+
+#[test]
+fn every_line_reads_back_as_itself() {
+    let text = all_lines().text() + &cases(5, 4_000) + &deck_cases(5, 200);
+    for line in text.lines() {
+        let read = Line::read(line).unwrap_or_else(|error| panic!("{error}: {line}"));
+        assert_eq!(read.to_string(), line);
+    }
+}
+
+#[test]
+fn lines_outside_the_format_are_refused() {
+    for line in [
+        "", " ", "walk", "walk ", "walk  1", "walk 1 ", "walk +1", "walk -1", "walk 4294967296",
+        "steps 1", "memory 66561 0 0", "memory 1 256 0", "put 0", "image 16778241 0 0 0",
+        "drive 65536 0 0 0", "drive 0 0 0 2", "record 40 0 0 0 0 0 0 0", "record 0 0 0 0 0 0 0",
+        "spoil 0 7 0", "spoil 0 4 65536", "spoil 0 5 256", "commands 4294967296", "lent 41",
+        "picks 256", "written 18446744073709551616", "Walk 0", "comment",
+    ] {
+        assert!(Line::read(line).is_err(), "{line:?}");
+    }
+    let outside = "case 0\nmemory 4 0 0\nput 3 1 2\n";
+    assert!(run_cases(outside.as_bytes(), Vec::new()).is_err());
+}
+
+#[test]
+fn the_seed_decides_everything() {
+    assert_eq!(cases(9, 50), cases(9, 50));
+    assert_ne!(cases(9, 50), cases(10, 50));
+    // More cases of one seed begin with the same cases.
+    assert!(cases(9, 60).starts_with(&cases(9, 50)));
+    for n in 0..50 {
+        let bytes: String = random_deck(4, n).iter().map(|byte| format!(" {byte}")).collect();
+        assert_eq!(deck_case(4, n), format!("case {n}\ndeck{bytes}\n"));
+    }
+}
+
+#[test]
+fn nothing_counted_stays_at_zero() {
+    let random = cases(1, 3_000);
+    assert!(random.len() < 3_000_000, "{} bytes of cases", random.len());
+    let text = all_lines().text() + &random + &deck_cases(1, 300);
+    let tally = count_cases(text.as_bytes()).expect("the makers keep to the format");
+    for (name, count) in tally.rows() {
+        assert!(count > 0, "{name} never came up");
+    }
+}
+
+#[test]
+fn a_worked_case() {
+    let case = "case 7\ndrive 0 0 0 0\nmemory 30 0 0\nimage 512 9 0 0\n\
+                walk 0\nsteps\npick 0\nfields 0\nlook 0\nlook 1\nview 2\n";
+    let mut out = Vec::new();
+    run_cases(case.as_bytes(), &mut out).unwrap();
+    let out = String::from_utf8(out).unwrap();
+    let lines: Vec<&str> = out.lines().collect();
+    assert_eq!(lines[0], "case 7");
+    assert!(lines[1].starts_with("walk 0 1 "));
+    assert_eq!(lines[2], "steps 1");
+    assert!(lines[3].starts_with("pick 0 "));
+    assert_eq!(lines[4], "fields 0 1 0 0 0 0 0 1 1 0 0 0 0 0 0 0 0 0");
+    assert!(lines[5].starts_with("look 0 512 "));
+    assert_eq!(lines[6], "look 10 0 811c9dc5");
+    assert_eq!(lines[7], "view 3 0 0 0 0 0 0 0 0 0 0 0 0 0 0 0 0 0 0");
+}
