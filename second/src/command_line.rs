@@ -1,10 +1,11 @@
-//! The command line: which words do what, and one line on every mistake.
+//! The command line: which words do what, one line on every mistake, and the
+//! status that the program ends with.
 
 use crate::bench::bench;
-use crate::decks::{deck_case, random_deck};
-use crate::lines::all_lines;
-use crate::maker::random_case;
-use crate::stream::{count_cases, run_cases};
+use crate::makers::cases::random_case;
+use crate::makers::decks::{deck_case, random_deck};
+use crate::makers::lines::all_lines;
+use crate::trial::stream::{count_cases, run_cases};
 use std::io::{self, BufWriter, ErrorKind, Read, Write};
 
 const USAGE: &str = "usage: second bench|run|count < FILE, second lines, \

@@ -16,23 +16,8 @@ pub mod walk;
 // The bench program.
 pub mod bench;
 
-// The case format: reading it, playing it, printing and counting the replies.
-pub mod answer;
-pub mod digest;
-pub mod line;
-pub mod state;
-pub mod stream;
-pub mod tally;
-
-// The makers of cases and decks.
-pub mod block;
-pub mod chain;
-pub mod decks;
-pub mod edges;
-pub mod lines;
-pub mod maker;
-pub mod rng;
-pub mod script;
-pub mod spoil;
+// The case format, and the makers of cases and decks.
+pub mod makers;
+pub mod trial;
 
 pub mod command_line;

@@ -1,4 +1,5 @@
 //! To look at a sector: its number, and its 512 bytes of the image.
+//! A look changes nothing.
 
 use crate::board::{Board, SECTOR_BYTES};
 

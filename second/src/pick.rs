@@ -35,12 +35,7 @@ pub fn refuses_all(board: &Board, table: &[Record], commands: u64) -> u8 {
 }
 
 /// A pick in a sound table of the records in use, with their sets made.
-pub fn pick_in_sound(
-    board: &mut Board,
-    in_use: &mut [Record],
-    sets: &[Touched],
-    place: u64,
-) -> u8 {
+pub fn pick_in_sound(board: &mut Board, in_use: &mut [Record], sets: &[Touched], place: u64) -> u8 {
     if place >= in_use.len() as u64 {
         return 8;
     }

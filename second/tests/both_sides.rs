@@ -2,8 +2,8 @@
 //! that the document gives written here by hand.
 
 use second::bench::bench_board;
-use second::block::Block;
 use second::board::Board;
+use second::makers::block::Block;
 use second::pick::pick;
 use second::record::Record;
 use second::run::run_written;
@@ -122,8 +122,17 @@ fn thirty_two_commands_and_thirty_three() {
 fn example() -> (Board, Table) {
     let mut board = bench_board(false);
     let parts = [
-        (0x00, 0x22), (0x09, 0x01), (0x0C, 0x01), (0x0D, 0x02), (0x12, 0x04), (0x17, 0x20),
-        (0x20, 0x21), (0x29, 0x01), (0x2B, 0x01), (0x32, 0x04), (0x37, 0x40),
+        (0x00, 0x22),
+        (0x09, 0x01),
+        (0x0C, 0x01),
+        (0x0D, 0x02),
+        (0x12, 0x04),
+        (0x17, 0x20),
+        (0x20, 0x21),
+        (0x29, 0x01),
+        (0x2B, 0x01),
+        (0x32, 0x04),
+        (0x37, 0x40),
         (0x40, 0x02),
     ];
     for (at, byte) in parts {

@@ -2,10 +2,10 @@
 //! whatever is picked, the rest done as written ends as the whole chain does.
 
 use second::board::{Board, Drive};
-use second::chain::random_chain;
+use second::makers::chain::random_chain;
+use second::makers::rng::Rng;
 use second::pick::pick;
 use second::record::Record;
-use second::rng::Rng;
 use second::run::{all_finished, run_picks, run_written};
 use second::walk::walk;
 

@@ -2,10 +2,10 @@
 //! line of number 9, with the numbers written by hand.
 
 use second::bench::bench_board;
-use second::block::Block;
 use second::board::{Board, Drive};
 use second::iopb::{fields_at, view};
 use second::look::{look, look_number};
+use second::makers::block::Block;
 use second::pick::pick;
 use second::record::Record;
 use second::run::{run_picks, run_written};

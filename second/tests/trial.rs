@@ -1,12 +1,12 @@
 //! The makers: every line is in the format, the seed decides everything, and
 //! nothing that is counted stays at zero.
 
-use second::decks::{deck_case, random_deck};
-use second::digest::digest;
-use second::line::Line;
-use second::lines::all_lines;
-use second::maker::random_case;
-use second::stream::{count_cases, run_cases};
+use second::makers::cases::random_case;
+use second::makers::decks::{deck_case, random_deck};
+use second::makers::lines::all_lines;
+use second::trial::digest::digest;
+use second::trial::line::Line;
+use second::trial::stream::{count_cases, run_cases};
 
 fn cases(seed: u64, number: u64) -> String {
     (0..number).map(|n| random_case(seed, n).text()).collect()
@@ -35,11 +35,33 @@ fn every_line_reads_back_as_itself() {
 #[test]
 fn lines_outside_the_format_are_refused() {
     for line in [
-        "", " ", "walk", "walk ", "walk  1", "walk 1 ", "walk +1", "walk -1", "walk 4294967296",
-        "steps 1", "memory 66561 0 0", "memory 1 256 0", "put 0", "image 16778241 0 0 0",
-        "drive 65536 0 0 0", "drive 0 0 0 2", "record 40 0 0 0 0 0 0 0", "record 0 0 0 0 0 0 0",
-        "spoil 0 7 0", "spoil 0 4 65536", "spoil 0 5 256", "commands 4294967296", "lent 41",
-        "picks 256", "written 18446744073709551616", "Walk 0", "comment",
+        "",
+        " ",
+        "walk",
+        "walk ",
+        "walk  1",
+        "walk 1 ",
+        "walk +1",
+        "walk -1",
+        "walk 4294967296",
+        "steps 1",
+        "memory 66561 0 0",
+        "memory 1 256 0",
+        "put 0",
+        "image 16778241 0 0 0",
+        "drive 65536 0 0 0",
+        "drive 0 0 0 2",
+        "record 40 0 0 0 0 0 0 0",
+        "record 0 0 0 0 0 0 0",
+        "spoil 0 7 0",
+        "spoil 0 4 65536",
+        "spoil 0 5 256",
+        "commands 4294967296",
+        "lent 41",
+        "picks 256",
+        "written 18446744073709551616",
+        "Walk 0",
+        "comment",
     ] {
         assert!(Line::read(line).is_err(), "{line:?}");
     }
@@ -70,20 +92,44 @@ fn nothing_counted_stays_at_zero() {
     }
 }
 
+/// The worked case of the club's page on trials. Its digests were worked out
+/// apart from this program.
+const WORKED_CASE: &str = "case 1
+drive 0 0 1 0
+memory 1024 0 0
+image 1024 7 1 0
+put 0 34 0 0 0 0 0 0 0 0 1 0 0 0 1 0 0 0 0 2 0 0 0 0 32
+put 32 1 0 0 0 0 0 0 0 0 1 0 0 0 0 0 0 0 0 2 0
+walk 0
+steps
+pick 1
+pick 0
+fields 0
+picks 0 1 1
+look 0
+look 1
+look 2
+view 7
+written 5
+";
+
+const WORKED_ANSWERS: &str = "case 1
+walk 0 2 90fa2ead 743661c5 cf972e8d
+steps 2
+pick 6 90fa2ead 743661c5 cf972e8d
+pick 0 7344e078 743661c5 4203bee0
+fields 0 1 1 0 2 0 0 1 1 0 0 0 1 0 0 1 512 32
+picks 0 1 2 1 d20f30c3 498e2dc5 d8aec143
+look 0 512 cd3565c5
+look 0 512 cd3565c5
+look 10 0 811c9dc5
+view 2 0 0 0 0 0 0 0 0 0 0 0 0 0 0 0 0 0 0
+written 0 0 1 d20f30c3 498e2dc5 d8aec143
+";
+
 #[test]
-fn a_worked_case() {
-    let case = "case 7\ndrive 0 0 0 0\nmemory 30 0 0\nimage 512 9 0 0\n\
-                walk 0\nsteps\npick 0\nfields 0\nlook 0\nlook 1\nview 2\n";
+fn the_worked_case() {
     let mut out = Vec::new();
-    run_cases(case.as_bytes(), &mut out).unwrap();
-    let out = String::from_utf8(out).unwrap();
-    let lines: Vec<&str> = out.lines().collect();
-    assert_eq!(lines[0], "case 7");
-    assert!(lines[1].starts_with("walk 0 1 "));
-    assert_eq!(lines[2], "steps 1");
-    assert!(lines[3].starts_with("pick 0 "));
-    assert_eq!(lines[4], "fields 0 1 0 0 0 0 0 1 1 0 0 0 0 0 0 0 0 0");
-    assert!(lines[5].starts_with("look 0 512 "));
-    assert_eq!(lines[6], "look 10 0 811c9dc5");
-    assert_eq!(lines[7], "view 3 0 0 0 0 0 0 0 0 0 0 0 0 0 0 0 0 0 0");
+    run_cases(WORKED_CASE.as_bytes(), &mut out).unwrap();
+    assert_eq!(String::from_utf8(out).unwrap(), WORKED_ANSWERS);
 }

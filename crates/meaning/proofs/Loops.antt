@@ -1,7 +1,8 @@
 -- What a loop through a list asks of `someOf`, `everyOf` and `sumOf`: at place k, and past the last place. Each is stated of the
 -- first n of a list, which is how a table holds its commands; `l` itself is its first `length l`. Assumes nothing.
 use mathlib.Core.Path.{_≡_, ap, _∙_}
-use Prim.Native.Nat.{ℕ, _+_, _≤_, _<_}
+use Prim.Native.Nat.{ℕ, zero, suc, _+_, _≤_, _<_}
+use native.Mathlib.Nat.{not-suc-le-zero, le-of-suc-le-suc}
 use native.Mathlib.Numerals.{add-one}
 use native.Mathlib.Omega.{arith}
 use mathlib.Core.Bool.{Bool, true, false, _&&_, _||_}
@@ -9,6 +10,7 @@ use mathlib.Core.List.{List, [], _∷_}
 use lib.ListN.{length, getD, take, drop, drop-of-length-le}
 use lib.Seq.{drop-cons, getD-take, length-take-le}
 use Rattle.meaning.specs.Each.{someOf, everyOf, sumOf}
+use Rattle.meaning.proofs.Rows.{or-false}
 
 module _ {A : Type 0} (d : A) (l : List A) (n : ℕ) (short : n ≤ length l) where
   -- what is left of the first n at place k
@@ -44,3 +46,11 @@ module _ {A : Type 0} (d : A) (l : List A) (n : ℕ) (short : n ≤ length l) wh
 
   pub sum-none : (f : A → ℕ) (k : ℕ) → n ≤ k → sumOf f (drop k (take n l)) ≡ 0
   sum-none f k h = ap (sumOf f) (left-none k h)
+
+-- none of the first n passes the test: the one at k does not
+pub none-at : {A : Type 0} (d : A) (p : A → Bool) (l : List A) (n k : ℕ) → someOf p (take n l) ≡ false → k < n → k < length l → p (getD l k d) ≡ false
+none-at d p [] n k e h i = absurd (not-suc-le-zero i)
+none-at d p (x ∷ xs) zero k e h i = absurd (not-suc-le-zero h)
+none-at d p (x ∷ xs) (suc n) zero e h i = or-false (p x) (someOf p (take n xs)) e .0
+none-at d p (x ∷ xs) (suc n) (suc k) e h i =
+    none-at d p xs n k (or-false (p x) (someOf p (take n xs)) e .1) (le-of-suc-le-suc h) (le-of-suc-le-suc i)

@@ -24,6 +24,27 @@ pub and-second : (a b : Bool) → a ≡ true → (a && b) ≡ b
 and-second true b e = refl
 and-second false b e = absurd (false≢true e)
 
+-- the first half of an "or" holds, or leaves it to the second
+pub or-first : (a b : Bool) → a ≡ true → (a || b) ≡ true
+or-first true b e = refl
+or-first false b e = absurd (false≢true e)
+
+pub or-second : (a b : Bool) → a ≡ false → (a || b) ≡ b
+or-second true b e = absurd (true≢false e)
+or-second false b e = refl
+
+pub or-later : (a b : Bool) → b ≡ true → (a || b) ≡ true
+or-later true b e = refl
+or-later false b e = e
+
+pub or-none : (a b : Bool) → a ≡ false → b ≡ false → (a || b) ≡ false
+or-none true b e f = absurd (true≢false e)
+or-none false b e f = f
+
+pub and-first : (a b : Bool) → a ≡ false → (a && b) ≡ false
+and-first true b e = absurd (true≢false e)
+and-first false b e = refl
+
 pub or-false : (a b : Bool) → (a || b) ≡ false → (a ≡ false) × (b ≡ false)
 or-false true b e = absurd (true≢false e)
 or-false false b e = (refl, e)

@@ -1,0 +1,5 @@
+pub mod Touching
+pub mod Copying
+pub mod Moving
+pub mod Spoiling
+pub mod Picking

@@ -1,0 +1,13 @@
+-- `board::command::reads` meets its contract: the code's test decides the first half of the "and". Assumes nothing.
+use borrow.Author.Tests.{eq-eqb, ne-eqb}
+use Rattle.board.proofs.command.reads.Statement.{statement}
+use Rattle.board.proofs.command.reads.Tie as tie
+
+returns : tie.Need-returns
+returns c = simp (ne-eqb _ _ (c .if1 .taken))
+
+returns-2 : tie.Need-returns-2
+returns-2 c = simp (eq-eqb _ _ (c .before .if1 .left))
+
+pub reads-spec : {M : Type 1} → statement M
+reads-spec = tie.close (tie.spec returns returns-2)

@@ -1,0 +1,5 @@
+// The board's work on an accepted table: what a command is and touches, when it waits, one step, a pick, and the two runs.
+pub mod command;
+pub mod touch;
+pub mod step;
+pub mod pick;

@@ -1,0 +1,16 @@
+-- A fact of each element of a list, as a product that computes.
+-- Assumes nothing.
+use mathlib.Core.List.{List, [], _∷_, _++_}
+
+module _ {A : Type 0} where
+  abbrev pub All : (A → Type 0) → List A → Type 0
+  All P [] = Unit {0}
+  All P (x ∷ xs) = P x × All P xs
+
+  pub all-append : (P : A → Type 0) (xs ys : List A) → All P xs → All P ys → All P (xs ++ ys)
+  all-append P [] ys h k = k
+  all-append P (x ∷ xs) ys h k = (h .0, all-append P xs ys (h .1) k)
+
+  pub all-map : (P Q : A → Type 0) → ((x : A) → P x → Q x) → (xs : List A) → All P xs → All Q xs
+  all-map P Q f [] h = tt
+  all-map P Q f (x ∷ xs) h = (f x (h .0), all-map P Q f xs (h .1))

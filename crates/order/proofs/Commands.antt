@@ -1,0 +1,47 @@
+-- What a step makes of a command's record: one step less remains, and nothing else that the rules look at changes.
+-- Assumes nothing.
+use mathlib.Core.Path.{_≡_, refl}
+use Prim.Native.Nat.{ℕ, suc, _+_, _<_}
+use native.Mathlib.Omega.{arith}
+use mathlib.Core.Bool.{true, false}
+use mathlib.Core.List.{List}
+use borrow.Author.Tests.{leb-true, leb-false, le-leb, lt-leb, le-ltb}
+use Rattle.meaning.specs.declared.Drive.{Drive}
+use Rattle.meaning.specs.declared.Record.{Record}
+use Rattle.meaning.specs.Command.{stepsOf, finished, remaining}
+use Rattle.meaning.specs.Touch.{touched, conflict}
+use Rattle.meaning.specs.Step.{stepped}
+use Rattle.meaning.specs.Pick.{badTransfer, badRecord}
+
+-- ---- finished is: no step remains
+
+pub finished-none : (r : Record) → finished r ≡ true → remaining r ≡ 0
+unfolding finished remaining
+finished-none r e = omega (arith, leb-true)
+
+pub unfinished-some : (r : Record) → finished r ≡ false → 0 < remaining r
+unfolding finished remaining
+unfinished-some r e = omega (arith, leb-false)
+
+pub none-finished : (r : Record) → remaining r ≡ 0 → finished r ≡ true
+unfolding finished remaining
+none-finished r e = le-leb (stepsOf r) (r .taken) (omega arith)
+
+pub some-unfinished : (r : Record) → 0 < remaining r → finished r ≡ false
+unfolding finished remaining
+some-unfinished r h = lt-leb (stepsOf r) (r .taken) (omega arith)
+
+-- ---- after a step
+
+pub remaining-stepped : (r : Record) → 0 < remaining r → suc (remaining (stepped r)) ≡ remaining r
+unfolding remaining stepped stepsOf
+remaining-stepped r h = omega arith
+
+pub conflict-stepped : (r q : Record) → conflict (stepped r) q ≡ conflict r q
+unfolding conflict touched stepped
+conflict-stepped r q = refl
+
+pub bad-stepped : (m : List ℕ) (d : Drive) (r : Record) → finished r ≡ false → badRecord m d (stepped r) ≡ badRecord m d r
+unfolding badRecord badTransfer stepped finished stepsOf
+bad-stepped m d r e =
+    rw (le-ltb (stepsOf r) (r .taken + 1) (omega (arith, leb-false)), le-ltb (stepsOf r) (r .taken) (omega (arith, leb-false)))

@@ -1,0 +1,115 @@
+-- Demand 3: any picks, and then the rest as written, come to the same as written alone. A run as written whose budget suffices is the
+-- heart's `finish` on records and stores, so that an accepted pick changes nothing of what the rest comes to.
+-- Assumes nothing.
+use mathlib.Core.Path.{_≡_, refl, sym, ap, ap₂, _∙_}
+use Prim.Native.Nat.{ℕ, zero, suc, _-_, _≤_}
+use native.Mathlib.Nat.{le-refl, min-eq-right}
+use native.Mathlib.Omega.{arith}
+use mathlib.Core.Bool.{false, not, _&&_}
+use mathlib.Core.List.{List, [], _∷_, _++_}
+use lib.ListN.{length, getD, set, take, drop}
+use lib.Seq.{length-take-le, take-set-lt, drop-set-lt, getD-take, take-take}
+use Rattle.meaning.specs.declared.Drive.{Drive}
+use Rattle.meaning.specs.declared.Record.{Record}
+use Rattle.meaning.specs.Each.{someOf, sumOf}
+use Rattle.meaning.specs.Command.{finished, remaining, noRecord}
+use Rattle.meaning.specs.Touch.{conflict}
+use Rattle.meaning.specs.Step.{Store, step, stepped}
+use Rattle.meaning.specs.Pick.{State, waits, stepAt}
+use Rattle.meaning.specs.Run.{advanced, stepsDone, Written, written}
+use Rattle.order.specs.States.{stepsLeft, asWritten, rest}
+use Rattle.order.specs.Rest.{PicksThenRest, RestFinishes, LargerDoesNoMore}
+use Rattle.order.proofs.Heart.{after, done, finish, Clear, finish-step}
+use Rattle.order.proofs.Tests.{or-false, and-false}
+use Rattle.order.proofs.Commands.{some-unfinished, unfinished-some, remaining-stepped, conflict-stepped}
+use Rattle.order.proofs.Footprint.{step-comm}
+use Rattle.order.proofs.Numbers.{Free}
+use Rattle.order.proofs.Picks.{picks-keep-in}
+use Rattle.order.proofs.Written.{written-cons}
+use Rattle.order.proofs.Steps.{finished-written}
+
+-- ---- a run as written whose budget suffices
+
+-- the heart's `finish` on records and stores
+abbrev finishAll : Drive → List Record → Store → List Record × Store
+finishAll d = finish (step d) stepped remaining
+
+after-is : (d : Drive) (k : ℕ) (r : Record) → advanced k r ≡ after (step d) stepped remaining k r
+unfolding advanced
+after-is d zero r = refl
+after-is d (suc k) r = after-is d k (stepped r)
+
+done-is : (d : Drive) (k : ℕ) (r : Record) (s : Store) → stepsDone d k r s ≡ done (step d) stepped remaining k r s
+unfolding stepsDone
+done-is d zero r s = refl
+done-is d (suc k) r s = done-is d k (stepped r) (step d r s)
+
+-- the table and the store that a run has come to
+abbrev ended : Written → List Record × Store
+ended w = (w .table, w .store)
+
+written-finish : (d : Drive) (b : ℕ) (t : List Record) (s : Store) → sumOf remaining t ≤ b → ended (written d b t s) ≡ finishAll d t s
+unfolding written
+written-finish d b [] s h = refl
+written-finish d b (r ∷ rs) s h =
+    let k = remaining r in
+    ap ended (written-cons d b r rs s k (min-eq-right (omega arith)))
+    ∙ ap₂ (λ (q : Record) (e : List Record × Store). (q ∷ e .0, e .1)) (after-is d k r)
+    (written-finish d (b - k) rs (stepsDone d k r s) (omega arith) ∙ ap (finishAll d rs) (done-is d k r s))
+
+-- a state whose commands and store have come to e, ahead of the other records
+abbrev ahead : List Record → List Record × Store → State
+ahead more e = record { table = e .0 ++ more; store = e .1 }
+
+as-written-finish : (d : Drive) (n b : ℕ) (s : State) → stepsLeft (s .table) n ≤ b
+    → asWritten d n b s ≡ ahead (drop n (s .table)) (finishAll d (take n (s .table)) (s .store))
+unfolding asWritten
+as-written-finish d n b s h = ap (ahead (drop n (s .table))) (written-finish d b (take n (s .table)) (s .store) h)
+
+rest-finish : (d : Drive) (n : ℕ) (s : State) → rest d n s ≡ ahead (drop n (s .table)) (finishAll d (take n (s .table)) (s .store))
+unfolding rest
+rest-finish d n s = as-written-finish d n (stepsLeft (s .table) n) s (le-refl (stepsLeft (s .table) n))
+
+-- ---- an accepted pick
+
+clear : (d : Drive) (c : Record) (es : List Record) → someOf (λ e. not (finished e) && conflict e c) es ≡ false
+    → Clear (step d) stepped remaining conflict c es
+clear d c [] w = tt
+clear d c (e ∷ es) w =
+    let h = or-false (not (finished e) && conflict e c) (someOf (λ q. not (finished q) && conflict q c) es) w in
+    (λ l. and-false (not (finished e)) (conflict e c) (h .0) (ap not (some-unfinished e l)), clear d c es (h .1))
+
+finish-pick : (d : Drive) (n p : ℕ) (t : List Record) (s : Store) → n ≤ length t → Free t n p
+    → let r = getD t p noRecord in
+    finishAll d (take n t) s ≡ finishAll d (take n (set t p (stepped r))) (step d r s)
+unfolding waits
+finish-pick d n p t s l f =
+    let h = f .inUse in
+    let r = getD t p noRecord in
+    let g = getD-take n t p noRecord h in
+    rw (take-set-lt n t p (stepped r) h, ← g)
+    (finish-step (step d) stepped remaining conflict remaining-stepped conflict-stepped (step-comm d) (take n t) p noRecord s
+    (rw (length-take-le n t l) h)
+    (rw g (unfinished-some r (f .unfinished)))
+    (rw (g, take-take p n t (omega arith)) (clear d r (take p t) (f .first))))
+
+rest-step : (d : Drive) (n p : ℕ) (s : State) → n ≤ length (s .table) → Free (s .table) n p → rest d n (stepAt d p s) ≡ rest d n s
+unfolding stepAt
+rest-step d n p s l f =
+    let r = getD (s .table) p noRecord in
+    rest-finish d n (stepAt d p s)
+    ∙ ap₂ ahead (drop-set-lt n (s .table) p (stepped r) (f .inUse)) (sym (finish-pick d n p (s .table) (s .store) l f))
+    ∙ sym (rest-finish d n s)
+
+-- ---- the statements
+
+pub picks-then-rest : PicksThenRest
+picks-then-rest d n ps s l =
+    picks-keep-in d n (λ y. rest d n (y .state) ≡ rest d n s) (λ p y m f q. rest-step d n p (y .state) m f ∙ q) (λ y q. q) ps s l refl
+
+pub rest-finishes : RestFinishes
+unfolding rest asWritten
+rest-finishes d n s l = finished-written d n (stepsLeft (s .table) n) (s .table) (s .store) l .1 (le-refl (stepsLeft (s .table) n))
+
+pub larger-does-no-more : LargerDoesNoMore
+larger-does-no-more d n b s h = as-written-finish d n b s h ∙ sym (rest-finish d n s)

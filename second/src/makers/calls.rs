@@ -1,0 +1,186 @@
+//! Random calls after a walk: picks, lists, runs, looks and views, and calls
+//! on boards whose sizes have gone wrong.
+
+use crate::makers::chain::Chain;
+use crate::makers::ground::{fill_image, other_drive};
+use crate::makers::rng::Rng;
+use crate::makers::script::Script;
+use crate::makers::spoil::spoil_and_call;
+use crate::makers::ALL_32_BITS;
+use crate::trial::line::Line;
+
+/// A walk, now and then by the lent form and with other lengths.
+pub fn walk(rng: &mut Rng, script: &mut Script, start: u64) {
+    if rng.percent(20) {
+        if rng.percent(30) {
+            script.say(Line::Lent(rng.one_of(&[0, 31, 32, 33, 39, 40])));
+        }
+        script.say(Line::LentWalk(start));
+        if script.state.lent >= 32 {
+            return;
+        }
+        script.say(Line::Lent(32));
+    }
+    script.say(Line::Walk(start));
+}
+
+/// One thing that a caller may do after the walk.
+pub fn act(rng: &mut Rng, script: &mut Script, chain: &Chain) {
+    match rng.below(100) {
+        0..=26 => {
+            for _ in 0..rng.between(1, 4) {
+                let place = random_place(rng, script);
+                script.say(Line::Pick(place));
+            }
+        }
+        27..=46 => random_list(rng, script),
+        47..=55 => {
+            script.say(Line::Written(rng.below(5)));
+        }
+        56..=63 => look_around(rng, script, chain),
+        64..=67 => {
+            script.say(Line::Steps);
+        }
+        68..=85 => spoil_and_call(rng, script),
+        86..=93 => lent_calls(rng, script, chain),
+        _ => wrong_size_and_call(rng, script),
+    }
+}
+
+/// A place: mostly one in use, often an unfinished one, now and then none.
+fn random_place(rng: &mut Rng, script: &Script) -> u64 {
+    let commands = script.state.commands;
+    match rng.below(40) {
+        0 => commands,
+        1 => rng.one_of(&[commands + 1, 31, 32, 39, 255, 256, ALL_32_BITS]).min(ALL_32_BITS),
+        2..=5 => commands.clamp(1, 32) - 1,
+        6..=15 => rng.below(commands.clamp(1, 40)),
+        _ => unfinished_place(rng, script),
+    }
+}
+
+/// An unfinished place, if there is one.
+fn unfinished_place(rng: &mut Rng, script: &Script) -> u64 {
+    let in_use = &script.state.table[..script.state.commands.min(32) as usize];
+    let open: Vec<usize> = (0..in_use.len()).filter(|place| !in_use[*place].finished()).collect();
+    if open.is_empty() {
+        return rng.below(script.state.commands.clamp(1, 40));
+    }
+    rng.one_of(&open) as u64
+}
+
+/// A list of picks, refused ones among them.
+fn random_list(rng: &mut Rng, script: &mut Script) {
+    let length = match rng.below(40) {
+        0 => 256,
+        1..=3 => rng.below(2),
+        // Long enough to finish some chains, not all.
+        _ => rng.between(2, 8 + 2 * script.state.commands.min(20)),
+    };
+    let places = (0..length).map(|_| random_place(rng, script).min(255) as u8).collect();
+    script.say(Line::Picks(places));
+}
+
+/// Any call on the table; also used where the table is spoiled.
+pub fn call_on_table(rng: &mut Rng, script: &mut Script) {
+    let place = random_place(rng, script);
+    match rng.below(8) {
+        0..=2 => {
+            script.say(Line::Pick(place));
+        }
+        3 | 4 => random_list(rng, script),
+        5 => {
+            script.say(Line::Written(rng.one_of(&[0, 1, 1, 2, 2, 3, 5, u64::MAX])));
+        }
+        6 => {
+            script.say(Line::LentPick(place));
+        }
+        _ => {
+            script.say(Line::Steps);
+        }
+    }
+}
+
+/// Looks at sectors, fields and views, at edges and where the chain lies.
+pub fn look_around(rng: &mut Rng, script: &mut Script, chain: &Chain) {
+    let sectors = script.state.board.drive.number_of_sectors();
+    let sector = match rng.below(10) {
+        0 => sectors,
+        1 => rng.one_of(&[sectors + 1, ALL_32_BITS]).min(ALL_32_BITS),
+        2 => sectors - 1,
+        _ => rng.below(sectors),
+    };
+    script.say(Line::Look(sector.min(ALL_32_BITS)));
+    for _ in 0..rng.between(1, 2) {
+        let address = random_address(rng, script, chain);
+        script.say(if rng.percent(50) { Line::Fields(address) } else { Line::View(address) });
+    }
+}
+
+/// An address for a view: at memory's end, past it, or on the chain.
+pub fn random_address(rng: &mut Rng, script: &Script, chain: &Chain) -> u64 {
+    let last = script.state.board.memory_bytes().saturating_sub(30);
+    match rng.below(10) {
+        0 => last,
+        1 => last + rng.between(1, 2),
+        2 => rng.one_of(&[ALL_32_BITS, ALL_32_BITS - 1, ALL_32_BITS - 29]),
+        3 => rng.between(0, last),
+        _ if chain.blocks.is_empty() => rng.below(4),
+        _ => chain.blocks[rng.below(chain.blocks.len() as u64) as usize].0,
+    }
+}
+
+/// Calls by the lent form, with lent tables below, at and above 32.
+fn lent_calls(rng: &mut Rng, script: &mut Script, chain: &Chain) {
+    script.say(Line::Lent(rng.one_of(&[0, 1, 31, 32, 33, 40, 40])));
+    if rng.percent(20) {
+        script.say(Line::LentWalk(chain.start));
+    }
+    for _ in 0..rng.between(1, 3) {
+        let place = random_place(rng, script);
+        script.say(Line::LentPick(place));
+    }
+    if script.state.commands == 0 {
+        script.say(Line::Lent(32));
+        script.say(Line::LentWalk(chain.start));
+    }
+}
+
+/// Makes drive, image or memory of the wrong size, calls, and mends it.
+fn wrong_size_and_call(rng: &mut Rng, script: &mut Script) {
+    let right = script.state.board.drive;
+    match rng.below(8) {
+        0..=4 => {
+            script.say(Line::Drive(other_drive(rng, right)));
+            calls_on_sizes(rng, script);
+            script.say(Line::Drive(right));
+        }
+        5 | 6 => {
+            let length = script.state.board.image.len() as u64;
+            let length = rng.one_of(&[0, 1, length - 1, length + 1, length - 512, length + 512]);
+            script.say(Line::Image { length, a: rng.byte(), b: rng.byte(), c: rng.byte() });
+            calls_on_sizes(rng, script);
+            fill_image(rng, script);
+        }
+        _ => {
+            let length = rng.one_of(&[65_536, 65_537, 66_560]);
+            script.say(Line::Memory { length, a: rng.byte(), b: rng.byte() });
+            calls_on_sizes(rng, script);
+        }
+    }
+}
+
+/// Calls that meet a wrong size; one that looks meets only the image's.
+fn calls_on_sizes(rng: &mut Rng, script: &mut Script) {
+    for _ in 0..rng.between(1, 3) {
+        if rng.percent(25) {
+            script.say(Line::Look(rng.below(40)));
+        } else {
+            call_on_table(rng, script);
+        }
+    }
+    if rng.percent(25) {
+        let start = 2 * rng.below(20);
+        script.say(if rng.percent(50) { Line::Walk(start) } else { Line::LentWalk(start) });
+    }
+}

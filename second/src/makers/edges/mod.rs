@@ -1,0 +1,56 @@
+//! Further cases made by hand, at every edge of document 01 and past it; each
+//! file here has one subject.
+
+pub mod closes;
+pub mod codes;
+pub mod conflicts;
+pub mod decks;
+pub mod nines;
+pub mod runs;
+pub mod shortcuts;
+pub mod sizes;
+pub mod views;
+pub mod walks;
+
+use crate::board::SECTOR_BYTES;
+use crate::makers::block::Block;
+use crate::makers::script::Script;
+use crate::trial::line::Line;
+
+/// The command Write Data.
+pub const WRITE: u8 = 1;
+/// The command Read Data.
+pub const READ: u8 = 2;
+
+/// All the cases of this folder.
+pub fn all_edges(script: &mut Script) {
+    sizes::all(script);
+    walks::all(script);
+    codes::all(script);
+    runs::all(script);
+    nines::all(script);
+    closes::all(script);
+    views::all(script);
+    conflicts::all(script);
+    shortcuts::all(script);
+    decks::all(script);
+}
+
+/// Memory of a length, with a pattern.
+pub fn memory(length: u64) -> Line {
+    Line::Memory { length, a: 3, b: 7 }
+}
+
+/// An image of so many sectors, with a pattern.
+pub fn image(sectors: u64) -> Line {
+    Line::Image { length: SECTOR_BYTES * sectors, a: 5, b: 3, c: 11 }
+}
+
+/// A chain with 2 + 3 + 1 steps, none in the way of another.
+pub fn six_steps(script: &mut Script) {
+    script.bench_case();
+    script.block(0x00, Block::new(READ).at(0, 0, 7).count(2).data(0x400).next(0x20));
+    script.block(0x20, Block::new(WRITE).at(1, 0, 6).count(3).data(0x800).next(0x40));
+    script.block(0x40, Block::new(0));
+    script.say(Line::Walk(0));
+}

@@ -1,0 +1,76 @@
+//! The lines of a case while it is being made. Each line is played as it is
+//! said, so that a maker can see the table and aim at its edges.
+
+use crate::bench::BENCH_MEMORY;
+use crate::board::{Drive, SECTOR_BYTES};
+use crate::makers::block::Block;
+use crate::record::Record;
+use crate::trial::answer::Answer;
+use crate::trial::line::Line;
+use crate::trial::state::State;
+
+#[derive(Clone, Debug, Default)]
+pub struct Script {
+    pub lines: Vec<Line>,
+    pub state: State,
+    cases: u64,
+}
+
+impl Script {
+    /// Says one line, and gives what it answers.
+    pub fn say(&mut self, line: Line) -> Answer {
+        let answer = self.state.play(&line).expect("a maker keeps its patches inside");
+        self.lines.push(line);
+        answer
+    }
+
+    pub fn say_all(&mut self, lines: impl IntoIterator<Item = Line>) {
+        for line in lines {
+            self.say(line);
+        }
+    }
+
+    /// The next case, numbered from 0.
+    pub fn case(&mut self) {
+        self.say(Line::Case(self.cases));
+        self.cases += 1;
+    }
+
+    pub fn drive(&mut self, max_cylinder: u16, max_head: u8, max_sector: u8, protected: bool) {
+        self.say(Line::Drive(Drive { max_cylinder, max_head, max_sector, protected }));
+    }
+
+    /// The drive and memory of the bench.
+    pub fn bench_ground(&mut self, protected: bool) {
+        self.drive(1, 1, 7, protected);
+        self.say(Line::Memory { length: BENCH_MEMORY as u64, a: 0, b: 0 });
+        self.say(Line::Image { length: 32 * SECTOR_BYTES, a: 0, b: 1, c: 0 });
+    }
+
+    /// A new case on the drive and memory of the bench.
+    pub fn bench_case(&mut self) {
+        self.case();
+        self.bench_ground(false);
+    }
+
+    pub fn block(&mut self, address: u64, block: Block) {
+        self.say(Line::Put { address, bytes: block.bytes.to_vec() });
+    }
+
+    pub fn record(&mut self, place: u64, record: Record) {
+        self.say(Line::Record { place, record });
+    }
+
+    pub fn spoil(&mut self, place: u64, field: u64, value: u64) {
+        self.say(Line::Spoil { place, field, value });
+    }
+
+    pub fn picks(&mut self, places: &[u8]) {
+        self.say(Line::Picks(places.to_vec()));
+    }
+
+    /// All the lines as the text of the format.
+    pub fn text(&self) -> String {
+        self.lines.iter().map(|line| format!("{line}\n")).collect()
+    }
+}

@@ -1,0 +1,28 @@
+//! The digests that cases print: of memory, of the image, of the records.
+//! They stand for all the bytes, so that a line of output stays short.
+
+use crate::record::Record;
+
+/// The digest of a run of bytes.
+pub fn digest(bytes: &[u8]) -> u64 {
+    let mut h: u64 = 2_166_136_261;
+    for byte in bytes {
+        h = ((h + u64::from(*byte)) * 16_777_619) % (1 << 32);
+    }
+    h
+}
+
+/// The digest of records, each number with its high byte first.
+pub fn digest_of_records(table: &[Record]) -> u64 {
+    let mut bytes = Vec::new();
+    for record in table {
+        bytes.extend(record.iopb.to_be_bytes());
+        bytes.extend(record.data.to_be_bytes());
+        bytes.extend(record.sector.to_be_bytes());
+        bytes.extend(record.taken.to_be_bytes());
+        bytes.extend(record.count.to_be_bytes());
+        bytes.push(record.byte0);
+        bytes.push(record.code);
+    }
+    digest(&bytes)
+}

@@ -1,0 +1,9 @@
+//! The case format: its lines, the state that they play on, the answers that
+//! are printed, and the count of what came up.
+
+pub mod answer;
+pub mod digest;
+pub mod line;
+pub mod state;
+pub mod stream;
+pub mod tally;

@@ -1,0 +1,242 @@
+//! Counts how often each thing comes up in a stream of cases, so that one can
+//! see what a trial has tried. Every row is there from the start, at 0.
+
+use crate::bench::BenchReply;
+use crate::conflict::{data_bytes, meet, sectors, status_bytes};
+use crate::iopb::fields_at;
+use crate::record::{causes, Cause, Record, MOST_COMMANDS};
+use crate::trial::answer::Answer;
+use crate::trial::line::Line;
+use crate::trial::state::State;
+use crate::walk::WalkReply;
+use std::collections::{BTreeMap, BTreeSet};
+
+const CODES: [u8; 10] = [0x00, 0x10, 0x11, 0x12, 0x13, 0x14, 0x1E, 0x42, 0x4B, 0x90];
+const KINDS: [&str; 4] = ["sector", "data-data", "data-status", "status-status"];
+const CAUSES: [(Cause, &str); 7] = [
+    (Cause::OverThirtyTwo, "over 32 commands"),
+    (Cause::IopbOutside, "IOPB not all in memory"),
+    (Cause::TakenAbove, "steps taken above steps"),
+    (Cause::CountZero, "count zero"),
+    (Cause::DataOutside, "data outside memory"),
+    (Cause::SectorsOutside, "sectors outside drive"),
+    (Cause::WriteProtected, "write to protected drive"),
+];
+const LOOP: &str = "refused 4: a loop";
+const OVERLAP: &str = "refused 4: an overlap, no loop";
+const ODD_CHAINED: &str = "odd next address, CHEN set";
+const ODD_ALONE: &str = "odd next address, CHEN clear";
+const PASSED: &str = "step past an unfinished command";
+
+/// The rows in the order in which they are printed.
+pub struct Tally {
+    names: Vec<String>,
+    counts: BTreeMap<String, u64>,
+}
+
+impl Default for Tally {
+    fn default() -> Tally {
+        Tally::new()
+    }
+}
+
+impl Tally {
+    pub fn new() -> Tally {
+        let names = all_names();
+        let counts = names.iter().map(|name| (name.clone(), 0)).collect();
+        Tally { names, counts }
+    }
+
+    /// The rows, each a name and how often it came up.
+    pub fn rows(&self) -> Vec<(String, u64)> {
+        self.names.iter().map(|name| (name.clone(), self.counts[name])).collect()
+    }
+
+    /// The table as text, the counts in one column.
+    pub fn text(&self) -> String {
+        let widest = self.names.iter().map(String::len).max().unwrap_or(0);
+        let line = |(name, count): (String, u64)| format!("{name:<widest$} {count:>8}\n");
+        self.rows().into_iter().map(line).collect()
+    }
+
+    fn add(&mut self, name: &str) {
+        *self.counts.get_mut(name).unwrap_or_else(|| panic!("no row {name}")) += 1;
+    }
+
+    /// Counts one line: the table before it, and the state after it.
+    pub fn see(&mut self, before: &[Record], state: &State, line: &Line, answer: &Answer) {
+        match answer {
+            Answer::Quiet | Answer::Steps(_) => {}
+            Answer::Case(_) => self.add("cases"),
+            Answer::Walk { word, reply } => self.see_walk(state, word, reply),
+            Answer::Pick { word, number } => {
+                self.add(&format!("{word} {number}"));
+                if let Line::Pick(place) | Line::LentPick(place) = line {
+                    self.see_pick(before, *place, *number);
+                }
+                self.see_causes(state, *number);
+            }
+            Answer::Picks(reply) => {
+                self.add(&format!("picks {}", reply.number));
+                if let Line::Picks(places) = line {
+                    self.see_list(before, places, &reply.numbers);
+                }
+                self.see_finished(reply.number, reply.finished);
+                self.see_causes(state, reply.number);
+            }
+            Answer::Written(reply) => {
+                self.add(&format!("written {}", reply.number));
+                self.see_finished(reply.number, reply.finished);
+                self.see_causes(state, reply.number);
+            }
+            Answer::Look { number, .. } => self.add(&format!("look {number}")),
+            Answer::Fields(_) => self.add("fields"),
+            Answer::View { number, .. } => self.add(&format!("view {number}")),
+            Answer::Deck(reply) => self.see_deck(reply),
+        }
+    }
+
+    fn see_walk(&mut self, state: &State, word: &str, reply: &WalkReply) {
+        self.add(&format!("{word} {}", reply.number));
+        if reply.number == 4 {
+            let (last, earlier) = reply.reached.split_last().expect("an IOPB was reached");
+            self.add(if earlier.contains(last) { LOOP } else { OVERLAP });
+        }
+        if reply.number != 0 {
+            return;
+        }
+        self.add(&format!("chain of {}", reply.commands));
+        for record in &state.table[..reply.commands as usize] {
+            self.add(&format!("code {:02X}", record.code));
+        }
+        for address in &reply.reached {
+            let fields = fields_at(&state.board, *address);
+            if fields.next % 2 == 1 {
+                self.add(if fields.chen == 1 { ODD_CHAINED } else { ODD_ALONE });
+            }
+        }
+    }
+
+    fn see_finished(&mut self, number: u8, finished: bool) {
+        if number == 0 {
+            self.add(if finished { "run finished" } else { "run not finished" });
+        }
+    }
+
+    /// Goes through a list again, keeping the steps taken, so that each
+    /// refused pick is judged by the table that it met.
+    fn see_list(&mut self, before: &[Record], places: &[u8], numbers: &[u8]) {
+        let mut table = before.to_vec();
+        for (place, number) in places.iter().zip(numbers) {
+            self.add(&format!("pick in a list {number}"));
+            self.see_pick(&table, u64::from(*place), *number);
+            if *number == 0 {
+                table[usize::from(*place)].taken += 1;
+            }
+        }
+    }
+
+    /// A pick with its number, and the table as the pick met it.
+    fn see_pick(&mut self, table: &[Record], place: u64, number: u8) {
+        match number {
+            0 if table[..place as usize].iter().any(|record| !record.finished()) => {
+                self.add(PASSED);
+            }
+            6 => self.see_conflict(table, place as usize),
+            _ => {}
+        }
+    }
+
+    /// Every kind of overlap between a refused command and the unfinished
+    /// ones before it; and the kind that alone would have refused it.
+    fn see_conflict(&mut self, table: &[Record], place: usize) {
+        let mut found = BTreeSet::new();
+        for earlier in table[..place].iter().filter(|record| !record.finished()) {
+            found.extend(kinds(earlier, &table[place]));
+        }
+        for kind in &found {
+            self.add(&format!("conflict {kind}"));
+            if found.len() == 1 {
+                self.add(&format!("conflict {kind} alone"));
+            }
+        }
+    }
+
+    fn see_causes(&mut self, state: &State, number: u8) {
+        if number != 9 {
+            return;
+        }
+        let found = causes(&state.board, &state.table, state.commands);
+        for (cause, name) in CAUSES {
+            if found.contains(&cause) {
+                self.add(&format!("refused 9: {name}"));
+                if found.len() == 1 {
+                    self.add(&format!("refused 9: {name}, alone"));
+                }
+            }
+        }
+    }
+
+    fn see_deck(&mut self, reply: &BenchReply) {
+        match reply {
+            BenchReply::Deck => self.add("bench deck"),
+            BenchReply::Chain(number) => self.add(&format!("bench chain {number}")),
+            BenchReply::Lines { .. } => self.add("bench lines"),
+        }
+    }
+}
+
+/// The kinds of overlap of two commands, where at least one of them writes.
+/// Status bytes are always written; data bytes are written by a Read Data.
+pub fn kinds(one: &Record, other: &Record) -> BTreeSet<&'static str> {
+    let mut found = BTreeSet::new();
+    let some_sectors_written = one.writes_sectors() || other.writes_sectors();
+    if some_sectors_written && meet(&sectors(one), &sectors(other)) {
+        found.insert(KINDS[0]);
+    }
+    let some_data_written = one.reads_sectors() || other.reads_sectors();
+    if some_data_written && meet(&data_bytes(one), &data_bytes(other)) {
+        found.insert(KINDS[1]);
+    }
+    if meet(&data_bytes(one), &status_bytes(other)) || meet(&status_bytes(one), &data_bytes(other))
+    {
+        found.insert(KINDS[2]);
+    }
+    if meet(&status_bytes(one), &status_bytes(other)) {
+        found.insert(KINDS[3]);
+    }
+    found
+}
+
+fn all_names() -> Vec<String> {
+    let mut names = vec!["cases".to_string()];
+    for (word, numbers) in [
+        ("walk", vec![0, 1, 2, 3, 4, 5]),
+        ("lentwalk", vec![0, 1, 2, 3, 4, 5]),
+        ("pick", vec![0, 1, 6, 7, 8, 9]),
+        ("lentpick", vec![0, 1, 6, 7, 8, 9]),
+        ("picks", vec![0, 1, 9]),
+        // 1 and 9 are tested before the first pick of a list.
+        ("pick in a list", vec![0, 6, 7, 8]),
+        ("written", vec![0, 1, 9]),
+        ("look", vec![0, 1, 10]),
+        ("view", vec![0, 2, 3]),
+    ] {
+        names.extend(numbers.iter().map(|number| format!("{word} {number}")));
+    }
+    names.extend(["fields", "run finished", "run not finished"].map(String::from));
+    names.extend(CODES.iter().map(|code| format!("code {code:02X}")));
+    names.extend(KINDS.iter().map(|kind| format!("conflict {kind}")));
+    names.extend(KINDS.iter().map(|kind| format!("conflict {kind} alone")));
+    names.push(PASSED.to_string());
+    names.extend((1..=MOST_COMMANDS).map(|length| format!("chain of {length}")));
+    names.extend([LOOP, OVERLAP, ODD_CHAINED, ODD_ALONE].map(String::from));
+    names.extend(CAUSES.iter().map(|(_, name)| format!("refused 9: {name}")));
+    names.extend(CAUSES.iter().map(|(_, name)| format!("refused 9: {name}, alone")));
+    // The bench's sizes are right and it starts at 0, so 1 and 2 cannot come.
+    names.extend(
+        ["bench deck", "bench chain 3", "bench chain 4", "bench chain 5"].map(String::from),
+    );
+    names.push("bench lines".to_string());
+    names
+}
