@@ -33,7 +33,7 @@ module _ (n : ℕ) (src dst : List ℕ) (from to : ℕ) (in-src : from + n ≤ l
       let lq : length (take n (drop to dst)) ≡ n = part-length dst to n in-dst in
       let is-p : ys ≡ p = simp (part-is src from n, part-is dst to n) at e ∙ all-copied p (take n (drop to dst)) lp lq in
       let rest : drop (to + n - to) (drop to dst) ≡ drop (to + length p) dst =
-          ap (λ (k : ℕ). drop k (drop to dst)) (add-sub-cancel-left to n) ∙ drop-drop n to dst ∙ ap (λ (k : ℕ). drop (to + k) dst) (sym lp)
+      ap (λ (k : ℕ). drop k (drop to dst)) (add-sub-cancel-left to n) ∙ drop-drop n to dst ∙ ap (λ (k : ℕ). drop (to + k) dst) (sym lp)
       in
       ap₂ (λ (x y : List ℕ). take to dst ++ (x ++ y)) is-p rest
       ∙ sym (append-assoc (take to dst) p (drop (to + length p) dst))

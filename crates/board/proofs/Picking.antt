@@ -74,7 +74,7 @@ module _ (m i : List ℕ) (d : Drive) (r : Record) (sizes : sizesWrong m i d ≡
       record {
         status = omega (arith, leb-true (r .iopb + iopbBytes) (length m) placed);
         bytes = λ t. omega (arith, left t, within-memory t);
-        sector = λ t. omega (arith, left t, within-drive t, image-length m i d sizes)
+        sector = λ t. omega (arith, left t, within-drive t, image-length m i d sizes);
       }
 
 -- ---- the numbers of a pick, in 01's order
@@ -100,11 +100,10 @@ module _ (m i : List ℕ) (d : Drive) (t : List Record) (n p : ℕ) where
   pub pick-refused : (k : ℕ) → pickNumber m i d t n p ≡ k → (k ≡ 0 → ⊥) → PickGives m i d t n p (record { number = k; table = t }) m i
   unfolding PickGives
   pick-refused k e h =
-      let same : picked d n p (stateOf m i t) ≡ stateOf m i t = pass _ _ _ (ne-eqb _ _ (λ q. h (sym e ∙ q))) in
-      (
+      let same : picked d n p (stateOf m i t) ≡ stateOf m i t = pass _ _ _ (ne-eqb _ _ (λ q. h (sym e ∙ q))) in (
         sym (ap₂ (λ (x : ℕ) (s : State). pickedOf x (s .table)) e same),
         sym (ap (λ (s : State). s .store .memory) same),
-        sym (ap (λ (s : State). s .store .image) same)
+        sym (ap (λ (s : State). s .store .image) same),
       )
 
   -- at place p, r after its step
@@ -113,9 +112,8 @@ module _ (m i : List ℕ) (d : Drive) (t : List Record) (n p : ℕ) where
       → PickGives m i d t n p (record { number = 0; table = set t p r }) m′ i′
   unfolding PickGives
   pick-accepted r m′ i′ e er em ei =
-      let done : picked d n p (stateOf m i t) ≡ stepAt d p (stateOf m i t) = stop _ _ _ (eq-eqb _ _ e) in
-      (
+      let done : picked d n p (stateOf m i t) ≡ stepAt d p (stateOf m i t) = stop _ _ _ (eq-eqb _ _ e) in (
         ap (λ (x : Record). pickedOf 0 (set t p x)) er ∙ sym (ap₂ (λ (x : ℕ) (s : State). pickedOf x (s .table)) e done),
         em ∙ sym (ap (λ (s : State). s .store .memory) done),
-        ei ∙ sym (ap (λ (s : State). s .store .image) done)
+        ei ∙ sym (ap (λ (s : State). s .store .image) done),
       )

@@ -1,6 +1,5 @@
 // What a record says of its command: whether it reads or writes, its steps, and whether it is finished.
 use meaning::Record;
-
 ghost use mathlib.Core.Path.{_≡_};
 ghost use Rattle.meaning.specs.Command as command;
 
@@ -38,11 +37,7 @@ pub fn transfers(r: Record) -> bool
 pub fn steps_of(r: Record) -> u32
     ensures { λ n. ⌜ n ≡ command.stepsOf r ⌝ }
 {
-    if transfers(r) {
-        r.count as u32
-    } else {
-        1
-    }
+    if transfers(r) { r.count as u32 } else { 1 }
 }
 
 // No step of the command is left.
@@ -59,9 +54,5 @@ pub fn remaining(r: Record) -> u32
 {
     let steps = steps_of(r);
     let taken = r.taken;
-    if taken < steps {
-        steps - taken
-    } else {
-        0
-    }
+    if taken < steps { steps - taken } else { 0 }
 }

@@ -6,7 +6,6 @@ use chain::sizes;
 use meaning::Drive;
 use meaning::Picked;
 use meaning::Record;
-
 ghost use mathlib.Core.Path.{_≡_};
 ghost use mathlib.Core.Bool.{not, _&&_};
 ghost use Prim.Native.Nat.{_≤_, _<_};
@@ -112,7 +111,14 @@ pub(crate) fn place_number(table: [Record; 32], commands: usize, place: usize) -
 }
 
 // A pick: its number, and on 0 one step at its place; on any other number nothing is changed.
-pub fn pick(memory: &mut [u8], image: &mut [u8], d: Drive, table: [Record; 32], commands: usize, place: usize) -> Picked
+pub fn pick(
+    memory: &mut [u8],
+    image: &mut [u8],
+    d: Drive,
+    table: [Record; 32],
+    commands: usize,
+    place: usize,
+) -> Picked
     ensures { λ r. ⌜ pick.PickGives (now (memory .entry)) (now (image .entry)) d table commands place r (now (memory .exit)) (now (image .exit)) ⌝ }
 {
     if sizes::sizes_wrong(memory, image, d) {

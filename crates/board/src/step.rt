@@ -2,7 +2,6 @@
 use crate::command;
 use meaning::Drive;
 use meaning::Record;
-
 ghost use mathlib.Core.Path.{_≡_};
 ghost use Prim.Native.Nat.{_+_, _≤_};
 ghost use mathlib.Core.Bool.{cond, false};
@@ -41,22 +40,14 @@ fn closing_byte0(r: Record) -> u8
     ensures { λ b. ⌜ b ≡ step.closingByte0 r ⌝ }
 {
     let done = r.byte0 % 64 + 64;
-    if r.code == 0 {
-        done
-    } else {
-        done + 128
-    }
+    if r.code == 0 { done } else { done + 128 }
 }
 
 // Byte 2 of a close: on cylinder and ready, and WRPT for a protected drive.
 fn drive_status(d: Drive) -> u8
     ensures { λ b. ⌜ b ≡ cond (d .protected) 0x13 0x03 ⌝ }
 {
-    if d.protected {
-        0x13
-    } else {
-        0x03
-    }
+    if d.protected { 0x13 } else { 0x03 }
 }
 
 // The sector of the next step moves between memory and image; a command that is no transfer moves none.

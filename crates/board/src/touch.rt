@@ -2,7 +2,6 @@
 // bytes, status against status, sectors against sectors, each where either writes, over all the sectors and data of both.
 use crate::command;
 use meaning::Record;
-
 ghost use mathlib.Core.Path.{_≡_};
 ghost use Prim.Native.Nat.{max, min};
 ghost use mathlib.Core.List.{_++_};

@@ -14,11 +14,11 @@ use Rattle.meaning.proofs.Rows.{or-false}
 
 module _ {A : Type 0} (d : A) (l : List A) (n : ℕ) (short : n ≤ length l) where
   -- what is left of the first n at place k
-  left-at : (k : ℕ) → k < n → drop k (take n l) ≡ getD l k d ∷ drop (k + 1) (take n l)
+  pub left-at : (k : ℕ) → k < n → drop k (take n l) ≡ getD l k d ∷ drop (k + 1) (take n l)
   left-at k h =
       rw (add-one, ← getD-take n l k d h) (drop-cons (take n l) k d (omega (arith, length-take-le n l short)))
 
-  left-none : (k : ℕ) → n ≤ k → drop k (take n l) ≡ []
+  pub left-none : (k : ℕ) → n ≤ k → drop k (take n l) ≡ []
   left-none k h = drop-of-length-le (take n l) {i = k} (omega (arith, length-take-le n l short))
 
   -- a test that passes at k decides `someOf`; one that fails leaves it to the places after k

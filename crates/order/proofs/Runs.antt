@@ -39,15 +39,15 @@ picks-accepted d n ps s e = picks-keep d n (λ k y. runOn d n (y .state) ≡ 0) 
 -- ---- where the runs give 0, and where they do not
 
 module _ (m i : List ℕ) (d : Drive) (t : List Record) (n : ℕ) where
-  picks-leave : (ps : List ℕ) → runNumber m i d t n ≡ 0 → picksLeave m i d t n ps ≡ byPicks d n ps (atStart (stateOf m i t))
+  pub picks-leave : (ps : List ℕ) → runNumber m i d t n ≡ 0 → picksLeave m i d t n ps ≡ byPicks d n ps (atStart (stateOf m i t))
   unfolding picksLeave
   picks-leave ps e = rw e
 
-  picks-refused : (ps : List ℕ) → eqb (runNumber m i d t n) 0 ≡ false → picksLeave m i d t n ps ≡ atStart (stateOf m i t)
+  pub picks-refused : (ps : List ℕ) → eqb (runNumber m i d t n) 0 ≡ false → picksLeave m i d t n ps ≡ atStart (stateOf m i t)
   unfolding picksLeave
   picks-refused ps e = rw e
 
-  written-leaves : (b : ℕ) → runNumber m i d t n ≡ 0 → endOf (writtenLeaves m i d t n b) ≡ asWritten d n b (stateOf m i t)
+  pub written-leaves : (b : ℕ) → runNumber m i d t n ≡ 0 → endOf (writtenLeaves m i d t n b) ≡ asWritten d n b (stateOf m i t)
   unfolding writtenLeaves asWritten
   written-leaves b e = rw e
 
@@ -83,14 +83,14 @@ picks-then-written m i d t n ps b l h = go (eqb (runNumber m i d t n) 0) refl
 -- ---- what they report
 
 module _ (m i : List ℕ) (d : Drive) (t : List Record) (n : ℕ) (e : runNumber m i d t n ≡ 0) where
-  picks-reply : (ps : List ℕ)
+  pub picks-reply : (ps : List ℕ)
       → let y = byPicks d n ps (atStart (stateOf m i t)) in
       picksReply m i d t n ps
       ≡ record { number = 0; steps = y .steps; refused = y .refused; finished = allFinished (y .state .table) n; table = y .state .table }
   unfolding picksReply
   picks-reply ps = rw e
 
-  written-reply : (b : ℕ)
+  pub written-reply : (b : ℕ)
       → let w = written d b (take n t) (stateOf m i t .store) in
       let u = w .table ++ drop n t in
       writtenReply m i d t n b ≡ record { number = 0; steps = w .steps; finished = allFinished u n; table = u }

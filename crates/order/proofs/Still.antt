@@ -19,11 +19,11 @@ use Rattle.order.proofs.Commands.{bad-stepped}
 
 -- ---- memory and image that are as long
 
-sizes-as-long : (m m′ i i′ : List ℕ) (d : Drive) → length m′ ≡ length m → length i′ ≡ length i → sizesWrong m′ i′ d ≡ sizesWrong m i d
+pub sizes-as-long : (m m′ i i′ : List ℕ) (d : Drive) → length m′ ≡ length m → length i′ ≡ length i → sizesWrong m′ i′ d ≡ sizesWrong m i d
 unfolding sizesWrong
 sizes-as-long m m′ i i′ d h k = rw (h, k)
 
-bad-as-long : (m m′ : List ℕ) (d : Drive) (r : Record) → length m′ ≡ length m → badRecord m′ d r ≡ badRecord m d r
+pub bad-as-long : (m m′ : List ℕ) (d : Drive) (r : Record) → length m′ ≡ length m → badRecord m′ d r ≡ badRecord m d r
 unfolding badRecord badTransfer
 bad-as-long m m′ d r h = rw h
 

@@ -59,7 +59,7 @@ returns-3 : tie.Need-returns-3 Inv-loop μ-loop
 returns-3 c = let a = c .before .before .before .before .args in
     let l = c .before .loop in
     let short : a .commands ≤ length (a .t3) = omega (arith, c .before .before .if1 .left, l .inv .1) in
-    sym (by-records (a .memory .now) (a .d) (a .t3) (a .commands) (c .before .before .if1 .left) ∙ l .inv .2 ∙ some-none noRecord (a .t3) (a .commands) short (badRecord (a .memory .now) (a .d)) (l .k) (c .loop-test .left) )
+    sym (by-records (a .memory .now) (a .d) (a .t3) (a .commands) (c .before .before .if1 .left) ∙ l .inv .2 ∙ some-none noRecord (a .t3) (a .commands) short (badRecord (a .memory .now) (a .d)) (l .k) (c .loop-test .left))
 
 pub spoiled-spec : {M : Type 1} → statement M
 spoiled-spec =

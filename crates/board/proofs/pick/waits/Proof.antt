@@ -69,7 +69,7 @@ unfolding waits
 returns-2 c = let a = c .before .before .before .args in
     let l = c .before .loop in
     let short : a .place ≤ length (a .t1) = omega (arith, c .before .before .before .pre, l .inv .1) in
-    sym (l .inv .2 ∙ some-none noRecord (a .t1) (a .place) short (blocking (getD (a .t1) (a .place) noRecord)) (l .k) (c .loop-test .left) )
+    sym (l .inv .2 ∙ some-none noRecord (a .t1) (a .place) short (blocking (getD (a .t1) (a .place) noRecord)) (l .k) (c .loop-test .left))
 
 pub waits-spec : {M : Type 1} → statement M
 waits-spec =

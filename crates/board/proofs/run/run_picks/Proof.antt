@@ -1,0 +1,43 @@
+-- `board::run::run_picks` meets its contract: a number that is not 0 leaves nothing changed. Assumes nothing.
+use Rattle.board.proofs.ByPicks.{picks-give-nothing}
+use borrow.Author.Needs.{needs}
+use Rattle.board.proofs.run.run_picks.Statement.{statement}
+use Rattle.board.proofs.run.run_picks.Tie as tie
+
+run-number-requires : tie.Need-run-number-requires
+run-number-requires c κs = search needs
+
+same-length : tie.Need-same-length
+same-length c = search needs
+
+same-length-2 : tie.Need-same-length-2
+same-length-2 c = search needs
+
+returns : tie.Need-returns
+returns c = let a = c .before .before .before .before .before .before .before .args in
+    picks-give-nothing (a .memory .now) (a .image .now) (a .d) (a .table) (a .commands) (a .picks .now) (c .before .run-number .result) (c .before .run-number .ensures) (c .if1 .taken)
+
+take-picks-requires : tie.Need-take-picks-requires
+take-picks-requires c κs = search needs
+
+same-length-3 : tie.Need-same-length-3
+same-length-3 c = search needs
+
+same-length-4 : tie.Need-same-length-4
+same-length-4 c = search needs
+
+returns-2 : tie.Need-returns-2
+returns-2 c = search needs
+
+pub run-picks-spec : {M : Type 1} → statement M
+run-picks-spec =
+    tie.close
+    (tie.spec
+    run-number-requires
+    same-length
+    same-length-2
+    returns
+    take-picks-requires
+    same-length-3
+    same-length-4
+    returns-2)

@@ -1,0 +1,92 @@
+-- The four bytes of a close, bit by bit: byte 0 is the copied byte 0 with bits 7 and 6 made anew. Assumes nothing.
+use mathlib.Core.Path.{_≡_, refl, _∙_}
+use mathlib.Core.Logic.{_↔_, _≢_}
+use Prim.Native.Nat.{ℕ, zero, suc, _+_, _*_, _%_, _<_}
+use native.Mathlib.Omega.{arith}
+use mathlib.Core.Bool.{Bool, true, false, cond}
+use lib.ListN.{getD}
+use lib.Dec.{eqb}
+use Rattle.meaning.specs.declared.Drive.{Drive}
+use Rattle.meaning.specs.declared.Record.{Record}
+use Rattle.meaning.specs.Fields.{bit}
+use Rattle.meaning.specs.Step.{closingByte0, closing, step}
+use Rattle.promises.specs.Closing.{StatusBytes, ClosingBytes}
+use Rattle.promises.proofs.Means.{Means, holds, fails, means-eq}
+use Rattle.promises.proofs.StepMoves.{step-moves-one}
+
+-- bits 5 to 0 of b, 1 and e
+module _ (b e : ℕ) (small : e < 2) where
+  low-bits : (k : ℕ) → k < 6 → bit k (b % 64 + 64 + 128 * e) ≡ bit k b
+  low-bits zero h = omega arith
+  low-bits (suc zero) h = omega arith
+  low-bits (suc (suc zero)) h = omega arith
+  low-bits (suc (suc (suc zero))) h = omega arith
+  low-bits (suc (suc (suc (suc zero)))) h = omega arith
+  low-bits (suc (suc (suc (suc (suc zero))))) h = omega arith
+  low-bits (suc (suc (suc (suc (suc (suc k)))))) h = absurd (omega arith)
+
+  bit-6 : bit 6 (b % 64 + 64 + 128 * e) ≡ 1
+  bit-6 = omega arith
+
+  bit-7 : bit 7 (b % 64 + 64 + 128 * e) ≡ e
+  bit-7 = omega arith
+
+-- ERRS: 1 exactly if the code is not 00
+abbrev errsIf : Bool → ℕ
+errsIf zeroCode = cond zeroCode 0 1
+
+errsOf : Record → ℕ
+errsOf r = errsIf (eqb (r .code) 0)
+
+module _ (r : Record) where
+  errs-small : errsOf r < 2
+  unfolding errsOf
+  errs-small = go (means-eq (r .code) 0)
+    where
+      go : {z : Bool} → Means (r .code ≡ 0) z → errsIf z < 2
+      go (holds e) = omega arith
+      go (fails n) = omega arith
+
+  errs-set : (errsOf r ≡ 1) ↔ (r .code ≢ 0)
+  unfolding errsOf
+  errs-set = go (means-eq (r .code) 0)
+    where
+      go : {z : Bool} → Means (r .code ≡ 0) z → (errsIf z ≡ 1) ↔ (r .code ≢ 0)
+      go (holds e) = ((λ h. absurd (omega arith)), λ n. absurd (n e))
+      go (fails n) = ((λ _. n), λ _. refl)
+
+  closing-byte-0 : closingByte0 r ≡ r .byte0 % 64 + 64 + 128 * errsOf r
+  unfolding closingByte0 errsOf
+  closing-byte-0 = go (eqb (r .code) 0)
+    where
+      go : (z : Bool) → r .byte0 % 64 + 64 + cond z 0 128 ≡ r .byte0 % 64 + 64 + 128 * errsIf z
+      go true = refl
+      go false = refl
+
+-- bytes that agree with the close's
+module _ (d : Drive) (r : Record) (byte : ℕ → ℕ) (same : (j : ℕ) → j < 4 → byte j ≡ getD (closing d r) j 0) where
+  byte-0 : byte 0 ≡ r .byte0 % 64 + 64 + 128 * errsOf r
+  unfolding closing
+  byte-0 = same 0 (omega arith) ∙ closing-byte-0 r
+
+  byte-2 : byte 2 ≡ cond (d .protected) 0x13 0x03
+  unfolding closing
+  byte-2 = same 2 (omega arith)
+
+  status-bytes : StatusBytes d r byte
+  unfolding closing
+  status-bytes =
+      let small = errs-small r in
+      record {
+        errs = rw (byte-0, bit-7 (r .byte0) (errsOf r) small) (errs-set r);
+        done = rw byte-0 (bit-6 (r .byte0) (errsOf r) small);
+        copied = rw byte-0 (low-bits (r .byte0) (errsOf r) small);
+        one-byte = rw byte-0 (omega arith);
+        code = same 1 (omega arith);
+        unprotected = λ e. rw (byte-2, e);
+        protected = λ e. rw (byte-2, e);
+        internal = same 3 (omega arith);
+      }
+
+pub closing-bytes : ClosingBytes
+closing-bytes d r s may last = status-bytes d r (λ j. getD (step d r s .memory) (r .iopb + j) 0) (step-moves-one d r s may .posted last)
