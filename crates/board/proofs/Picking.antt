@@ -7,7 +7,7 @@ use mathlib.Core.Bool.{Bool, true, false, not, _&&_, _||_}
 use mathlib.Core.List.{List}
 use lib.ListN.{length, getD, set}
 use lib.Dec.{ltb, leb, eqb}
-use borrow.Author.Tests.{ltb-false, leb-true, leb-false, eq-eqb, ne-eqb}
+use borrow.Author.Tests.{ltb-false, leb-true, leb-false, le-leb, lt-leb, eq-eqb, ne-eqb}
 use Rattle.meaning.specs.declared.Drive.{Drive}
 use Rattle.meaning.specs.declared.Picked.{Picked}
 use Rattle.meaning.specs.declared.Record.{Record}
@@ -16,7 +16,7 @@ use Rattle.meaning.specs.Fields.{iopbBytes, allIn}
 use Rattle.meaning.specs.Sizes.{memoryLimit, sizesWrong}
 use Rattle.meaning.specs.Command.{writes, transfers, stepsOf, finished, noRecord}
 use Rattle.meaning.specs.Step.{step, stepped}
-use Rattle.meaning.specs.Pick.{badTransfer, badRecord, spoiled, placeNumber, pickNumber, State, stateOf, stepAt, picked, PickGives}
+use Rattle.meaning.specs.Pick.{badTransfer, badRecord, spoiled, waits, placeNumber, pickNumber, State, stateOf, stepAt, picked, PickGives}
 use Rattle.meaning.proofs.Rows.{or-false, not-false, and-second, pass, stop}
 use Rattle.drive.proofs.Looks.{right-length}
 use Rattle.board.specs.Ready.{Ready}
@@ -77,7 +77,25 @@ module _ (m i : List ℕ) (d : Drive) (r : Record) (sizes : sizesWrong m i d ≡
         sector = λ t. omega (arith, left t, within-drive t, image-length m i d sizes);
       }
 
--- ---- the numbers of a pick, in 01's order
+-- ---- the numbers of a pick, in 01's order: the rows after 1 and 9, and then all
+
+module _ (t : List Record) (n p : ℕ) where
+  pub no-place : n ≤ p → placeNumber t n p ≡ 8
+  unfolding placeNumber
+  no-place h = stop (leb n p) _ _ (le-leb n p h)
+
+  module _ (in-use : p < n) where
+    pub is-finished : finished (getD t p noRecord) ≡ true → placeNumber t n p ≡ 7
+    unfolding placeNumber
+    is-finished f = pass (leb n p) _ _ (lt-leb n p in-use) ∙ stop (finished (getD t p noRecord)) _ _ f
+
+    pub has-to-wait : finished (getD t p noRecord) ≡ false → waits t p ≡ true → placeNumber t n p ≡ 6
+    unfolding placeNumber
+    has-to-wait f w = pass (leb n p) _ _ (lt-leb n p in-use) ∙ pass (finished (getD t p noRecord)) _ _ f ∙ stop (waits t p) _ _ w
+
+    pub may-go : finished (getD t p noRecord) ≡ false → waits t p ≡ false → placeNumber t n p ≡ 0
+    unfolding placeNumber
+    may-go f w = pass (leb n p) _ _ (lt-leb n p in-use) ∙ pass (finished (getD t p noRecord)) _ _ f ∙ pass (waits t p) _ _ w
 
 abbrev pickedOf : ℕ → List Record → Picked
 pickedOf k t = record { number = k; table = t }

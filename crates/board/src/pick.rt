@@ -68,7 +68,7 @@ pub fn spoiled(memory: &[u8], d: Drive, table: [Record; 32], commands: usize) ->
 }
 
 // An earlier command e is unfinished and conflicts with r.
-fn blocks(e: Record, r: Record) -> bool
+pub(crate) fn blocks(e: Record, r: Record) -> bool
     ensures { λ b. ⌜ b ≡ (not (finished e) && conflict e r) ⌝ }
 {
     if command::finished(e) {

@@ -118,7 +118,8 @@ pub fn run_picks(
     take_picks(memory, image, d, table, commands, picks)
 }
 
-// The picks of a run that passed 1 and 9, one after another.
+// The picks of a run that passed 1 and 9, one after another. The search for an earlier command that blocks stands in this loop, and
+// not in a function of its own: a table passed by value is copied, and no table is copied for a pick.
 fn take_picks(
     memory: &mut [u8],
     image: &mut [u8],
@@ -134,23 +135,36 @@ fn take_picks(
     let mut steps: usize = 0;
     let mut refused: usize = 0;
     let mut k = 0;
-    while k < picks.len() {
+    'picks: while k < picks.len() {
         let place = picks[k] as usize;
         k += 1;
-        if pick::place_number(after, commands, place) == 0 {
-            let r = after[place];
-            step::take_step(memory, image, d, r);
-            after[place] = step::stepped(r);
-            steps += 1;
-        } else {
+        if commands <= place {
             refused += 1;
+            continue;
         }
+        let r = after[place];
+        if command::finished(r) {
+            refused += 1;
+            continue;
+        }
+        let mut earlier = 0;
+        while earlier < place {
+            if pick::blocks(after[earlier], r) {
+                refused += 1;
+                continue 'picks;
+            }
+            earlier += 1;
+        }
+        step::take_step(memory, image, d, r);
+        after[place] = step::stepped(r);
+        steps += 1;
     }
+    let finished = all_finished(after, commands);
     RanPicks {
         number: 0,
         steps,
         refused,
-        finished: all_finished(after, commands),
+        finished,
         table: after,
     }
 }

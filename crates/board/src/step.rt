@@ -56,15 +56,13 @@ fn move_sector(memory: &mut [u8], image: &mut [u8], r: Record)
     ensures { λ _. ⌜ now (memory .exit) ≡ step.moves (step.sectorMove r (r .taken)) (stateOf (now (memory .entry)) (now (image .entry)) [] .store) .memory ⌝ }
     ensures { λ _. ⌜ now (image .exit) ≡ step.moves (step.sectorMove r (r .taken)) (stateOf (now (memory .entry)) (now (image .entry)) [] .store) .image ⌝ }
 {
+    let on_disk = 512 * (r.sector as usize + r.taken as usize);
+    let in_memory = r.address as usize + 512 * r.taken as usize;
     if command::reads(r) {
-        let on_disk = 512 * (r.sector as usize + r.taken as usize);
-        let in_memory = r.address as usize + 512 * r.taken as usize;
         copy_sector(image, on_disk, memory, in_memory);
         return;
     }
     if command::writes(r) {
-        let on_disk = 512 * (r.sector as usize + r.taken as usize);
-        let in_memory = r.address as usize + 512 * r.taken as usize;
         copy_sector(memory, in_memory, image, on_disk);
         return;
     }

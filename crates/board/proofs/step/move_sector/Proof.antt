@@ -7,9 +7,6 @@ use borrow.Author.Needs.{needs}
 use Rattle.board.proofs.step.move_sector.Statement.{statement}
 use Rattle.board.proofs.step.move_sector.Tie as tie
 
-reads-requires : tie.Need-reads-requires
-reads-requires c κs = search needs
-
 cast-on-disk : tie.Need-cast-on-disk
 cast-on-disk c = search needs
 
@@ -34,9 +31,12 @@ mul-in-memory c = search needs
 add-in-memory : tie.Need-add-in-memory
 add-in-memory c = search needs
 
+reads-requires : tie.Need-reads-requires
+reads-requires c κs = search needs
+
 copy-sector-requires : tie.Need-copy-sector-requires
 copy-sector-requires c κs = let k = c .before .before .before .before .before .before .before .before .before .before in
-    let t = or-first _ _ (sym (c .before .before .before .before .before .before .before .reads .ensures) ∙ c .before .before .before .before .before .before .if1 .taken) in
+    let t = or-first _ _ (sym (c .before .before .before .reads .ensures) ∙ c .before .before .if1 .taken) in
     (k .pre .sector t, k .pre .bytes t)
 
 same-length : tie.Need-same-length
@@ -48,39 +48,15 @@ same-length-2 c = search needs
 returns : tie.Need-returns
 returns c = let a = c .before .before .before .before .before .before .before .before .before .before .before .before .before .args in
     let s : Store = record { memory = a .memory .now; image = a .image .now } in
-    let e = read-moves (a .r) (a .r .taken) s (sym (c .before .before .before .before .before .before .before .before .before .before .reads .ensures) ∙ c .before .before .before .before .before .before .before .before .before .if1 .taken) in
+    let e = read-moves (a .r) (a .r .taken) s (sym (c .before .before .before .before .before .before .reads .ensures) ∙ c .before .before .before .before .before .if1 .taken) in
     (c .before .before .copy-sector .ensures ∙ sym (ap (λ (x : Store). x .memory) e), sym (ap (λ (x : Store). x .image) e))
 
 writes-requires : tie.Need-writes-requires
 writes-requires c κs = search needs
 
-cast-on-disk-3 : tie.Need-cast-on-disk-3
-cast-on-disk-3 c = search needs
-
-cast-on-disk-4 : tie.Need-cast-on-disk-4
-cast-on-disk-4 c = search needs
-
-add-on-disk-2 : tie.Need-add-on-disk-2
-add-on-disk-2 c = search needs
-
-mul-on-disk-2 : tie.Need-mul-on-disk-2
-mul-on-disk-2 c = search needs
-
-cast-in-memory-3 : tie.Need-cast-in-memory-3
-cast-in-memory-3 c = search needs
-
-cast-in-memory-4 : tie.Need-cast-in-memory-4
-cast-in-memory-4 c = search needs
-
-mul-in-memory-2 : tie.Need-mul-in-memory-2
-mul-in-memory-2 c = search needs
-
-add-in-memory-2 : tie.Need-add-in-memory-2
-add-in-memory-2 c = search needs
-
 copy-sector-requires-2 : tie.Need-copy-sector-requires-2
 copy-sector-requires-2 c κs = let k = c .before .before .before .before .before .before .before .before .before .before .before .before in
-    let t = or-second _ _ (sym (c .before .before .before .before .before .before .before .before .before .reads .ensures) ∙ c .before .before .before .before .before .before .before .before .if1 .left) ∙ (sym (c .before .before .before .before .before .before .before .writes .ensures) ∙ c .before .before .before .before .before .before .if2 .taken) in
+    let t = or-second _ _ (sym (c .before .before .before .before .before .reads .ensures) ∙ c .before .before .before .before .if1 .left) ∙ (sym (c .before .before .before .writes .ensures) ∙ c .before .before .if2 .taken) in
     (k .pre .bytes t, k .pre .sector t)
 
 same-length-3 : tie.Need-same-length-3
@@ -92,11 +68,11 @@ same-length-4 c = search needs
 returns-2 : tie.Need-returns-2
 returns-2 c = let a = c .before .before .before .before .before .before .before .before .before .before .before .before .before .before .before .args in
     let s : Store = record { memory = a .memory .now; image = a .image .now } in
-    let e = write-moves (a .r) (a .r .taken) s (sym (c .before .before .before .before .before .before .before .before .before .before .before .before .reads .ensures) ∙ c .before .before .before .before .before .before .before .before .before .before .before .if1 .left) (sym (c .before .before .before .before .before .before .before .before .before .before .writes .ensures) ∙ c .before .before .before .before .before .before .before .before .before .if2 .taken) in
+    let e = write-moves (a .r) (a .r .taken) s (sym (c .before .before .before .before .before .before .before .before .reads .ensures) ∙ c .before .before .before .before .before .before .before .if1 .left) (sym (c .before .before .before .before .before .before .writes .ensures) ∙ c .before .before .before .before .before .if2 .taken) in
     (sym (ap (λ (x : Store). x .memory) e), c .before .before .copy-sector2 .ensures ∙ sym (ap (λ (x : Store). x .image) e))
 
 returns-3 : tie.Need-returns-3
-returns-3 c = let a = c .before .before .before .before .before .before .args in
+returns-3 c = let a = c .before .before .before .before .before .before .before .before .before .before .args in
     let s : Store = record { memory = a .memory .now; image = a .image .now } in
     let e = no-move (a .r) (a .r .taken) s (sym (c .before .before .before .reads .ensures) ∙ c .before .before .if1 .left) (sym (c .before .writes .ensures) ∙ c .if2 .left) in
     (sym (ap (λ (x : Store). x .memory) e), sym (ap (λ (x : Store). x .image) e))
@@ -105,7 +81,6 @@ pub move-sector-spec : {M : Type 1} → statement M
 move-sector-spec =
     tie.close
     (tie.spec
-    reads-requires
     cast-on-disk
     cast-on-disk-2
     add-on-disk
@@ -114,19 +89,12 @@ move-sector-spec =
     cast-in-memory-2
     mul-in-memory
     add-in-memory
+    reads-requires
     copy-sector-requires
     same-length
     same-length-2
     returns
     writes-requires
-    cast-on-disk-3
-    cast-on-disk-4
-    add-on-disk-2
-    mul-on-disk-2
-    cast-in-memory-3
-    cast-in-memory-4
-    mul-in-memory-2
-    add-in-memory-2
     copy-sector-requires-2
     same-length-3
     same-length-4
