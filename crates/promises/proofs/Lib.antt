@@ -22,3 +22,4 @@ pub mod PickMoves
 pub mod Steps
 pub mod RunSteps
 pub mod WrittenThenRead
+pub mod Example

@@ -16,3 +16,4 @@ pub mod Closing
 pub mod PickMoves
 pub mod RunSteps
 pub mod WrittenThenRead
+pub mod Example
