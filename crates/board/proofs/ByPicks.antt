@@ -1,11 +1,11 @@
 -- The loop of a run by picks: what the whole list comes to is what the picks that are left come to from here. One law for an accepted
 -- pick, one for a refused one, and the reply at the end. Assumes nothing.
-use mathlib.Core.Path.{_≡_, refl, sym, ap, ap₂, _∙_}
+use mathlib.Core.Path.{_≡_, refl, sym, ap, _∙_}
 use Prim.Native.Nat.{ℕ, _+_, _≤_, _<_}
 use native.Mathlib.Numerals.{add-one}
 use native.Mathlib.Omega.{arith}
 use mathlib.Core.Bool.{Bool, false}
-use mathlib.Core.List.{List, [], _∷_}
+use mathlib.Core.List.{List}
 use lib.ListN.{length, getD, drop, set, length-set, drop-of-length-le}
 use lib.Seq.{drop-cons}
 use lib.Dec.{eqb}
@@ -18,7 +18,7 @@ use Rattle.meaning.specs.Step.{step, stepped}
 use Rattle.meaning.specs.Pick.{State, stateOf, placeNumber, pickNumber, stepAt}
 use Rattle.meaning.specs.Run.{Tally, onePick, byPicks, atStart, runNumber, allFinished, picksLeave, picksReply, PicksGive}
 use Rattle.meaning.proofs.Rows.{pass, stop}
-use Rattle.order.proofs.Numbers.{Passed, place-free, passed-pick, run-passed}
+use Rattle.order.proofs.Numbers.{Passed, run-passed}
 use Rattle.order.proofs.Footprint.{step-keeps-lengths}
 use Rattle.order.proofs.Still.{passed-step}
 use Rattle.order.proofs.Runs.{picks-leave, picks-refused, picks-reply}

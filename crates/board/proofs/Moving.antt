@@ -1,10 +1,10 @@
 -- A step's moves by the kind of its command, as what they leave of memory and image; and a step as its sector's move and, where it
 -- is the last, the close. Assumes nothing.
-use mathlib.Core.Path.{_≡_, refl, sym, ap, _∙_}
+use mathlib.Core.Path.{_≡_, refl, ap, _∙_}
 use Prim.Native.Nat.{ℕ, _+_, _*_, _<_}
 use native.Mathlib.Omega.{arith}
 use mathlib.Core.Bool.{Bool, true, false, cond}
-use mathlib.Core.List.{List, [], _∷_, _++_, append-nil}
+use mathlib.Core.List.{List, [], _∷_, _++_}
 use lib.ListN.{take, drop}
 use lib.Seq.{sets}
 use borrow.Author.Tests.{eq-eqb, ne-eqb, leb-false}
@@ -12,7 +12,7 @@ use Rattle.meaning.specs.declared.Drive.{Drive}
 use Rattle.meaning.specs.declared.Record.{Record}
 use Rattle.meaning.specs.Sectors.{sectorBytes}
 use Rattle.meaning.specs.Command.{reads, writes, transfers, stepsOf, finished}
-use Rattle.meaning.specs.Step.{Store, Move, fetch, keep, post, move, moves, sectorMove, closing, closeMove, stepMoves, step}
+use Rattle.meaning.specs.Step.{Store, Move, move, moves, sectorMove, closing, closeMove, step}
 use Rattle.meaning.proofs.Rows.{pass, stop}
 
 module _ (r : Record) (k : ℕ) (s : Store) where

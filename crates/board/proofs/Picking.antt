@@ -11,7 +11,7 @@ use borrow.Author.Tests.{ltb-false, leb-true, leb-false, le-leb, lt-leb, eq-eqb,
 use Rattle.meaning.specs.declared.Drive.{Drive}
 use Rattle.meaning.specs.declared.Picked.{Picked}
 use Rattle.meaning.specs.declared.Record.{Record}
-use Rattle.meaning.specs.Sectors.{sectorBytes, sectorCount, imageRight}
+use Rattle.meaning.specs.Sectors.{sectorBytes, sectorCount}
 use Rattle.meaning.specs.Fields.{iopbBytes, allIn}
 use Rattle.meaning.specs.Sizes.{memoryLimit, sizesWrong}
 use Rattle.meaning.specs.Command.{writes, transfers, stepsOf, finished, noRecord}

@@ -17,11 +17,11 @@ use Rattle.meaning.specs.declared.RanWritten.{RanWritten}
 use Rattle.meaning.specs.Sizes.{sizesWrong}
 use Rattle.meaning.specs.Command.{remaining, noRecord}
 use Rattle.meaning.specs.Step.{Store}
-use Rattle.meaning.specs.Pick.{stateOf, badRecord, spoiled}
+use Rattle.meaning.specs.Pick.{badRecord, spoiled}
 use Rattle.meaning.specs.Run.{advanced, stepsDone, Written, written, runNumber, allFinished, writtenLeaves, writtenReply, WrittenGives}
 use Rattle.meaning.proofs.Rows.{pass, stop}
 use Rattle.meaning.proofs.Loops.{left-at, left-none}
-use Rattle.order.proofs.Numbers.{Passed, run-passed}
+use Rattle.order.proofs.Numbers.{run-passed}
 use Rattle.order.proofs.Still.{sizes-as-long, bad-as-long}
 use Rattle.order.proofs.Written.{front, written-cons}
 use Rattle.order.proofs.Runs.{written-reply}

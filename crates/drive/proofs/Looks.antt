@@ -7,7 +7,7 @@ use native.Mathlib.Omega.{arith}
 use mathlib.Core.Bool.{true, not}
 use mathlib.Core.List.{List, []}
 use lib.ListN.{length, take, drop}
-use lib.Dec.{ltb, leb, eqb}
+use lib.Dec.{ltb, leb}
 use borrow.Author.Tests.{ltb-false, eqb-true, eq-eqb, ne-eqb}
 use Rattle.meaning.specs.declared.Drive.{Drive}
 use Rattle.meaning.specs.Sectors.{sectorBytes, imageLimit, sectorCount, largestSector, imageRight}

@@ -5,20 +5,13 @@ use meaning::Drive;
 use meaning::Maximum;
 ghost use mathlib.Core.Path.{_≡_};
 ghost use Prim.Native.Nat.{_≤_};
-ghost use Rattle.meaning.specs.Sectors.{countOf, sectorCount, largestSector, sectorNumber, imageRight};
+ghost use Rattle.meaning.specs.Sectors.{sectorCount, largestSector, sectorNumber, imageRight};
 ghost use Rattle.meaning.specs.Look.{lookNumber, lookPart};
 
 // The bytes of a sector, and the most that an image may have.
 pub const SECTOR_BYTES: u64 = 512;
 
 pub const IMAGE_LIMIT: u64 = 16_777_216;
-
-// How many there are, from the largest number.
-pub fn count_of(m: Maximum) -> Count
-    ensures { λ r. ⌜ r .0 ≡ countOf (m .0) ⌝ }
-{
-    Count(m.0 as u64 + 1)
-}
 
 // How many sectors the drive has. 65,536 cylinders of 256 heads of 256 sectors are 2 to the 32: they fit.
 pub fn sectors(d: Drive) -> Count

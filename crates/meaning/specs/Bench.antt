@@ -1,10 +1,9 @@
 -- What comes of a deck: document 01, "The bench program". "The chain starts at 0 and runs as written." Assumes nothing.
 use Prim.Native.Nat.{ℕ}
 use mathlib.Core.Bool.{cond}
-use mathlib.Core.List.{List, [], map}
+use mathlib.Core.List.{List, map}
 use lib.ListN.{length}
 use Rattle.meaning.specs.declared.Drive.{Drive}
-use Rattle.meaning.specs.declared.Record.{Record}
 use Rattle.meaning.specs.Walk.{Chain, refused, accepted, chainAt}
 use Rattle.meaning.specs.Step.{Store}
 use Rattle.meaning.specs.Run.{written, chainSteps}

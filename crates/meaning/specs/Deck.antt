@@ -1,10 +1,10 @@
 -- A deck: document 01, "The bench program", its first paragraph. b is the bytes of a deck. Assumes nothing.
 use Prim.Native.Nat.{ℕ, _+_, _*_, _/_, _%_}
-use mathlib.Core.Bool.{Bool, true, false, not, _&&_, cond}
-use mathlib.Core.List.{List, [], _∷_, _++_, foldl}
+use mathlib.Core.Bool.{Bool, not, _&&_, cond}
+use mathlib.Core.List.{List, [], _++_, foldl}
 use lib.ListN.{length, getD, take, drop, replicate}
 use lib.Seq.{sets}
-use lib.Dec.{ltb, leb, eqb}
+use lib.Dec.{leb, eqb}
 use Rattle.meaning.specs.Each.{everyOf, upTo}
 use Rattle.meaning.specs.declared.Drive.{Drive}
 use Rattle.meaning.specs.Sectors.{sectorBytes}

@@ -6,7 +6,7 @@ use mathlib.Core.Bool.{Bool, not, _&&_, _||_, cond}
 use mathlib.Core.List.{List, [], _∷_}
 use lib.ListN.{length, getD, set, take}
 use lib.Dec.{ltb, leb, eqb}
-use Rattle.meaning.specs.First.{firstOf, _↝_}
+use Rattle.meaning.specs.First.{Row, firstOf, _↝_}
 use Rattle.meaning.specs.Each.{someOf}
 use Rattle.meaning.specs.declared.Drive.{Drive}
 use Rattle.meaning.specs.Sectors.{sectorBytes, sectorCount}
@@ -42,25 +42,27 @@ unfoldable pub waits : List Record → ℕ → Bool
 unfolding finished conflict
 waits t p = someOf (λ e. not (finished e) && conflict e (getD t p noRecord)) (take p t)
 
--- "Given exactly when (in this order)": the rows after 1 and 9
-unfoldable pub placeNumber : List Record → ℕ → ℕ → ℕ
-unfolding finished waits
-placeNumber t n p =
-    firstOf
-    (leb n p ↝ 8
+-- "Given exactly when (in this order)": the rows that both runs test first, and the rows after them
+abbrev pub runRows : List ℕ → List ℕ → Drive → List Record → ℕ → List Row
+runRows m i d t n =
+    sizesWrong m i d ↝ 1
+    ∷ spoiled m d t n ↝ 9
+    ∷ []
+
+abbrev pub placeRows : List Record → ℕ → ℕ → List Row
+placeRows t n p =
+    leb n p ↝ 8
     ∷ finished (getD t p noRecord) ↝ 7
     ∷ waits t p ↝ 6
-    ∷ [])
-    0
+    ∷ []
+
+unfoldable pub placeNumber : List Record → ℕ → ℕ → ℕ
+unfolding finished waits
+placeNumber t n p = firstOf (placeRows t n p) 0
 
 unfoldable pub pickNumber : List ℕ → List ℕ → Drive → List Record → ℕ → ℕ → ℕ
 unfolding spoiled placeNumber
-pickNumber m i d t n p =
-    firstOf
-    (sizesWrong m i d ↝ 1
-    ∷ spoiled m d t n ↝ 9
-    ∷ [])
-    (placeNumber t n p)
+pickNumber m i d t n p = firstOf (runRows m i d t n) (placeNumber t n p)
 
 -- a table with memory and image: what a step changes
 pub record State : Type 0 where

@@ -5,16 +5,15 @@ use mathlib.Core.Bool.{Bool, false, cond}
 use mathlib.Core.List.{List, [], _∷_, _++_}
 use lib.ListN.{take, drop}
 use lib.Dec.{eqb}
-use Rattle.meaning.specs.First.{firstOf, _↝_}
+use Rattle.meaning.specs.First.{firstOf}
 use Rattle.meaning.specs.Each.{everyOf, sumOf}
 use Rattle.meaning.specs.declared.Drive.{Drive}
 use Rattle.meaning.specs.declared.Record.{Record}
-use Rattle.meaning.specs.Sizes.{sizesWrong}
 use Rattle.meaning.specs.declared.RanPicks.{RanPicks}
 use Rattle.meaning.specs.declared.RanWritten.{RanWritten}
 use Rattle.meaning.specs.Command.{stepsOf, finished, remaining}
 use Rattle.meaning.specs.Step.{Store, step, stepped}
-use Rattle.meaning.specs.Pick.{State, stateOf, spoiled, pickNumber, stepAt}
+use Rattle.meaning.specs.Pick.{State, stateOf, runRows, pickNumber, stepAt}
 
 -- "A chain's steps, from its start, are the sum of the steps of its commands."
 unfoldable pub chainSteps : List Record → ℕ → ℕ
@@ -28,7 +27,7 @@ allFinished t n = everyOf finished (take n t)
 
 -- "Both runs test 1 and 9 first"; "otherwise they give 0"
 unfoldable pub runNumber : List ℕ → List ℕ → Drive → List Record → ℕ → ℕ
-runNumber m i d t n = firstOf (sizesWrong m i d ↝ 1 ∷ spoiled m d t n ↝ 9 ∷ []) 0
+runNumber m i d t n = firstOf (runRows m i d t n) 0
 
 -- ---- by picks
 

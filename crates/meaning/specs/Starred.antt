@@ -1,14 +1,11 @@
 -- The starred examples of document 01, "On both sides of each line": twelve rows of one table under one statement,
 -- `starred-rows`, which holds by computing the definitions. "The drive and memory of the bench." Assumes nothing.
 use mathlib.Core.Path.{_≡_, refl}
-use Prim.Native.Nat.{ℕ, _*_}
+use Prim.Native.Nat.{ℕ}
 use mathlib.Core.List.{List, [], _∷_, _++_, map}
 use lib.ListN.{length, getD, set, replicate}
-use Rattle.meaning.specs.First.{firstOf}
-use Rattle.meaning.specs.declared.Drive.{Drive}
 use Rattle.meaning.specs.Sectors.{sectorCount, sectorNumber, imageRight}
 use Rattle.meaning.specs.Fields.{byteOf}
-use Rattle.meaning.specs.declared.Record.{Record}
 use Rattle.meaning.specs.Sizes.{sizesWrong}
 use Rattle.meaning.specs.Code.{copiedAt, codeOf}
 use Rattle.meaning.specs.Walk.{Chain, refused, accepted, recordOf, follow, chainAt}

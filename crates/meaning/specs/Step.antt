@@ -37,11 +37,14 @@ moves [] s = s
 moves (v ∷ vs) s = moves vs (move v s)
 
 -- "Step k moves the command's k-th sector, in rising sector number, between the image and the k-th 512 bytes at its data address."
-unfoldable pub sectorMove : Record → ℕ → List Move
-sectorMove r k =
+abbrev pub sectorMoveBy : Bool → Bool → Record → ℕ → List Move
+sectorMoveBy rd wr r k =
     let onDisk = sectorBytes * (r .sector + k) in
     let inMemory = r .address + sectorBytes * k in
-    cond (reads r) (fetch onDisk inMemory sectorBytes ∷ []) (cond (writes r) (keep inMemory onDisk sectorBytes ∷ []) [])
+    cond rd (fetch onDisk inMemory sectorBytes ∷ []) (cond wr (keep inMemory onDisk sectorBytes ∷ []) [])
+
+unfoldable pub sectorMove : Record → ℕ → List Move
+sectorMove r k = sectorMoveBy (reads r) (writes r) r k
 
 -- "Byte 0 is the copied byte 0 with DONE set, and ERRS set exactly if the code is not 00."
 unfoldable pub closingByte0 : Record → ℕ

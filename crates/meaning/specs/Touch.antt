@@ -54,8 +54,12 @@ byWrite r = record { bytesRead = dataBytes r ∷ []; bytesWritten = statusBytes 
 abbrev pub byOther : Record → Touched
 byOther r = record { bytesRead = []; bytesWritten = statusBytes r ∷ []; sectorsRead = []; sectorsWritten = [] }
 
+-- by whether a command reads and whether it writes
+abbrev pub touchedBy : Bool → Bool → Record → Touched
+touchedBy rd wr r = cond rd (byRead r) (cond wr (byWrite r) (byOther r))
+
 unfoldable pub touched : Record → Touched
-touched r = cond (reads r) (byRead r) (cond (writes r) (byWrite r) (byOther r))
+touched r = touchedBy (reads r) (writes r) r
 
 -- the one writes a byte or sector that the other reads or writes
 unfoldable pub disturbs : Touched → Touched → Bool

@@ -16,8 +16,9 @@ use Rattle.meaning.specs.Touch.{conflict}
 use Rattle.meaning.specs.Step.{Store, step, stepped}
 use Rattle.meaning.specs.Pick.{waits, stepAt}
 use Rattle.meaning.specs.Run.{allFinished, written}
+use Rattle.meaning.proofs.Rows.{and-true}
 use Rattle.order.specs.Earliest.{Earliest, EarliestNeverWaits, WrittenIsEarliestFirst}
-use Rattle.order.proofs.Tests.{and-true, and-false, every-none}
+use Rattle.order.proofs.Tests.{and-false, every-none}
 use Rattle.order.proofs.Numbers.{free-place, run-passed, passed-pick}
 use Rattle.order.proofs.Commands.{unfinished-some}
 use Rattle.order.proofs.Written.{front, oneMore, front-one-more, written-cons, written-finished, written-unfinished}

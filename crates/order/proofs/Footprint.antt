@@ -13,11 +13,11 @@ use Rattle.meaning.specs.declared.Record.{Record}
 use Rattle.meaning.specs.Each.{someOf}
 use Rattle.meaning.specs.Sectors.{sectorBytes}
 use Rattle.meaning.specs.Command.{reads, writes, stepsOf, remaining}
-use Rattle.meaning.specs.Touch.{Range, overlap, meet, Touched, dataBytes, statusBytes, sectors, byRead, byWrite, byOther, touched, disturbs, conflict}
-use Rattle.meaning.specs.Step.{Store, Move, fetch, keep, post, sectorMove, closing, closeMove, stepMoves, step}
+use Rattle.meaning.specs.Touch.{Range, overlap, meet, Touched, dataBytes, statusBytes, sectors, touched, disturbs, conflict, touchedBy}
+use Rattle.meaning.specs.Step.{Store, Move, post, sectorMove, closing, closeMove, stepMoves, step, sectorMoveBy}
+use Rattle.meaning.proofs.Rows.{or-false}
 use Rattle.order.specs.Accepted.{StepKeepsLengths}
 use Rattle.order.proofs.All.{All, all-append, all-map}
-use Rattle.order.proofs.Tests.{or-false}
 use Rattle.order.proofs.Moves.{Area, inMemory, inImage, Separate, writesTo, readsFrom, Spares, KeepApart, moves-comm, length-moves}
 
 -- ---- an area that lies in what a command reads or writes
@@ -106,16 +106,6 @@ keeps-apart t u vs ws e f h k =
     ws k
 
 -- ---- the moves of a step keep to what its command reads and writes
-
--- `touched` and `sectorMove`, by whether the command reads and whether it writes
-abbrev touchedBy : Bool → Bool → Record → Touched
-touchedBy rd wr r = cond rd (byRead r) (cond wr (byWrite r) (byOther r))
-
-abbrev sectorMoveBy : Bool → Bool → Record → ℕ → List Move
-sectorMoveBy rd wr r k =
-    let onDisk = sectorBytes * (r .sector + k) in
-    let inMemory = r .address + sectorBytes * k in
-    cond rd (fetch onDisk inMemory sectorBytes ∷ []) (cond wr (keep inMemory onDisk sectorBytes ∷ []) [])
 
 sector-keeps : (rd wr : Bool) (r : Record) (k : ℕ) → k < cond (rd || wr) (r .count) 1 → All (KeepsTo (touchedBy rd wr r)) (sectorMoveBy rd wr r k)
 sector-keeps true wr r k h = (record { written = here {z = dataBytes r} (omega arith); read = (here {z = sectors r} (omega arith), tt) }, tt)

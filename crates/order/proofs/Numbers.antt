@@ -6,18 +6,18 @@ use Prim.Native.Nat.{ℕ, _<_}
 use mathlib.Core.Bool.{Bool, true, false, not, _||_, cond, false≢true}
 use mathlib.Core.List.{List, [], _∷_}
 use lib.ListN.{getD}
-use lib.Dec.{ltb, leb}
+use lib.Dec.{ltb}
 use borrow.Author.Tests.{leb-false, lt-leb}
 use Rattle.meaning.specs.declared.Drive.{Drive}
 use Rattle.meaning.specs.declared.Record.{Record}
-use Rattle.meaning.specs.First.{Row, _↝_, firstOf}
+use Rattle.meaning.specs.First.{Row, firstOf}
 use Rattle.meaning.specs.Each.{everyOf}
 use Rattle.meaning.specs.Sizes.{sizesWrong}
 use Rattle.meaning.specs.Command.{finished, noRecord}
-use Rattle.meaning.specs.Pick.{spoiled, waits, placeNumber, pickNumber}
+use Rattle.meaning.specs.Pick.{spoiled, waits, placeNumber, pickNumber, runRows, placeRows}
 use Rattle.meaning.specs.Run.{runNumber}
+use Rattle.meaning.proofs.Rows.{and-true}
 use Rattle.order.proofs.All.{All}
-use Rattle.order.proofs.Tests.{and-true}
 
 -- ---- rows of a table
 
@@ -52,10 +52,6 @@ pub record Free (t : List Record) (n p : ℕ) : Type 0 where
   pub unfinished : finished (getD t p noRecord) ≡ false
   pub first : waits t p ≡ false
 
--- the rows of `placeNumber`
-abbrev placeRows : List Record → ℕ → ℕ → List Row
-placeRows t n p = leb n p ↝ 8 ∷ finished (getD t p noRecord) ↝ 7 ∷ waits t p ↝ 6 ∷ []
-
 pub place-free : (t : List Record) (n p : ℕ) → placeNumber t n p ≡ 0 → Free t n p
 unfolding placeNumber
 place-free t n p e =
@@ -73,17 +69,13 @@ pub record Passed (m i : List ℕ) (d : Drive) (t : List Record) (n : ℕ) : Typ
   pub sound : spoiled m d t n ≡ false
 
 module _ (m i : List ℕ) (d : Drive) (t : List Record) (n : ℕ) where
-  -- the rows that every pick and both runs test first
-  abbrev firstRows : List Row
-  firstRows = sizesWrong m i d ↝ 1 ∷ spoiled m d t n ↝ 9 ∷ []
-
-  rows-passed : (z : ℕ) → firstOf firstRows z ≡ 0 → Passed m i d t n
+  rows-passed : (z : ℕ) → firstOf (runRows m i d t n) z ≡ 0 → Passed m i d t n
   rows-passed z e =
-      let q = rows-off firstRows z e refl in
+      let q = rows-off (runRows m i d t n) z e refl in
       record { sizes = q .0; sound = q .1 .0 }
 
-  passed-rows : (z : ℕ) → Passed m i d t n → firstOf firstRows z ≡ z
-  passed-rows z h = off-last firstRows z (h .sizes, (h .sound, tt))
+  passed-rows : (z : ℕ) → Passed m i d t n → firstOf (runRows m i d t n) z ≡ z
+  passed-rows z h = off-last (runRows m i d t n) z (h .sizes, (h .sound, tt))
 
   pub run-passed : runNumber m i d t n ≡ 0 → Passed m i d t n
   unfolding runNumber

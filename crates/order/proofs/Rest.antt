@@ -17,10 +17,11 @@ use Rattle.meaning.specs.Touch.{conflict}
 use Rattle.meaning.specs.Step.{Store, step, stepped}
 use Rattle.meaning.specs.Pick.{State, waits, stepAt}
 use Rattle.meaning.specs.Run.{advanced, stepsDone, Written, written}
+use Rattle.meaning.proofs.Rows.{or-false}
 use Rattle.order.specs.States.{stepsLeft, asWritten, rest}
 use Rattle.order.specs.Rest.{PicksThenRest, RestFinishes, LargerDoesNoMore}
 use Rattle.order.proofs.Heart.{after, done, finish, Clear, finish-step}
-use Rattle.order.proofs.Tests.{or-false, and-false}
+use Rattle.order.proofs.Tests.{and-false}
 use Rattle.order.proofs.Commands.{some-unfinished, unfinished-some, remaining-stepped, conflict-stepped}
 use Rattle.order.proofs.Footprint.{step-comm}
 use Rattle.order.proofs.Numbers.{Free}

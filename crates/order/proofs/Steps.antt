@@ -18,9 +18,9 @@ use Rattle.meaning.specs.Command.{finished, remaining}
 use Rattle.meaning.specs.Step.{Store, stepped}
 use Rattle.meaning.specs.Pick.{State, stateOf}
 use Rattle.meaning.specs.Run.{allFinished, byPicks, atStart, advanced, stepsDone, written}
+use Rattle.meaning.proofs.Rows.{and-true}
 use Rattle.order.specs.States.{stepsLeft}
 use Rattle.order.specs.Steps.{StepsAddUp}
-use Rattle.order.proofs.Tests.{and-true}
 use Rattle.order.proofs.Commands.{finished-none, none-finished, remaining-stepped}
 use Rattle.order.proofs.Picks.{picks-keep, picks-keep-in, left-step}
 use Rattle.order.proofs.Walk.{walk-is-sound}

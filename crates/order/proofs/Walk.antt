@@ -2,24 +2,22 @@
 -- walk fills is as number 9 asks, since its code was fixed by the same tests.
 -- Assumes nothing.
 use mathlib.Core.Path.{_≡_, refl, sym, ap, ap₂, _∙_, subst}
-use Prim.Native.Nat.{ℕ, zero, suc, _+_, _*_, _≤_, _<_, zero-le}
+use Prim.Native.Nat.{ℕ, zero, suc, _+_, _≤_, _<_, zero-le}
 use native.Mathlib.Nat.{not-suc-le-zero, le-add-right}
 use native.Mathlib.Omega.{arith}
-use mathlib.Core.Bool.{Bool, true, false, not, _&&_, _||_, cond}
+use mathlib.Core.Bool.{Bool, true, false, not, _&&_, cond}
 use mathlib.Core.List.{List, [], _∷_, _++_, map}
 use lib.ListN.{length, drop, length-append}
 use lib.Seq.{take-append-seam}
-use lib.Dec.{ltb, eqb, lit<, lit≤}
+use lib.Dec.{eqb, lit<, lit≤}
 use borrow.Author.Tests.{le-ltb, eqb-true, not-false}
 use Rattle.meaning.specs.declared.Drive.{Drive}
 use Rattle.meaning.specs.declared.Copied.{Copied}
 use Rattle.meaning.specs.declared.Record.{Record}
-use Rattle.meaning.specs.First.{Row, _↝_}
 use Rattle.meaning.specs.Each.{someOf, sumOf}
 use Rattle.meaning.specs.Sizes.{sizesWrong}
-use Rattle.meaning.specs.Sectors.{sectorBytes, sectorCount}
 use Rattle.meaning.specs.Fields.{allIn}
-use Rattle.meaning.specs.Code.{copiedAt, nop, write, read, commandIn, chained, gathers, odd, firstSector, codeOf}
+use Rattle.meaning.specs.Code.{copiedAt, nop, commandIn, odd, codeOf, codeRows}
 use Rattle.meaning.specs.Walk.{mostCommands, recordOf, goesOn, shares, Chain, refused, accepted, follow, chainAt, reply, walkOf}
 use Rattle.meaning.specs.Command.{transfers, stepsOf, remaining}
 use Rattle.meaning.specs.Pick.{badTransfer, badRecord, spoiled}
@@ -30,22 +28,6 @@ use Rattle.order.proofs.Tests.{and-no}
 use Rattle.order.proofs.Numbers.{Off, rows-off, passed-run}
 
 -- ---- a code of 00
-
--- the rows of `codeOf`, which are not named there
-abbrev codeRows : Copied → Drive → ℕ → List Row
-codeRows c d n =
-    (chained c && odd (c .next)) ↝ 0x1E
-    ∷ (ltb read (commandIn (c .byte0)) || gathers c || not (eqb (c .subfunction) 0)) ↝ 0x14
-    ∷ eqb (commandIn (c .byte0)) nop ↝ 0x00
-    ∷ not (eqb (c .unit) 0) ↝ 0x42
-    ∷ eqb (c .count) 0 ↝ 0x13
-    ∷ ltb (d .cylinder) (c .cylinder) ↝ 0x10
-    ∷ ltb (d .head) (c .head) ↝ 0x11
-    ∷ ltb (d .sector) (c .sector) ↝ 0x12
-    ∷ ltb (sectorCount d) (firstSector d c + c .count) ↝ 0x10
-    ∷ (eqb (commandIn (c .byte0)) write && d .protected) ↝ 0x90
-    ∷ ltb n (c .address + sectorBytes * c .count) ↝ 0x4B
-    ∷ []
 
 code-zero : (c : Copied) (d : Drive) (n : ℕ) → codeOf c d n ≡ 0 → eqb (commandIn (c .byte0)) nop ≡ false → All Off (codeRows c d n)
 unfolding codeOf

@@ -1,6 +1,5 @@
 -- `drive::look_number` meets its contract: each test decides a row of the look's numbers. Assumes nothing.
 use borrow.Author.Needs.{needs}
-use native.Mathlib.Omega.{arith}
 use borrow.Author.Tests.{le-ltb, lt-ltb}
 use Rattle.meaning.specs.Look.{lookNumber}
 use Rattle.drive.proofs.look_number.Statement.{statement}

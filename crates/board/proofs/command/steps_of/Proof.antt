@@ -1,5 +1,5 @@
 -- `board::command::steps_of` meets its contract: its test decides between the count and one. Assumes nothing.
-use mathlib.Core.Path.{sym, ap, _∙_}
+use mathlib.Core.Path.{sym, _∙_}
 use Rattle.meaning.specs.Command.{stepsOf}
 use Rattle.meaning.proofs.Rows.{pass, stop}
 use borrow.Author.Needs.{needs}

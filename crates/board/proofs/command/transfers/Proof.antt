@@ -1,5 +1,5 @@
 -- `board::command::transfers` meets its contract: a command that does not read transfers if it writes. Assumes nothing.
-use mathlib.Core.Path.{sym, ap, _∙_}
+use mathlib.Core.Path.{sym, _∙_}
 use Rattle.meaning.proofs.Rows.{or-first, or-second}
 use borrow.Author.Needs.{needs}
 use Rattle.board.proofs.command.transfers.Statement.{statement}

@@ -1,7 +1,7 @@
 -- `board::run::chain_steps` meets its contract: the sum so far and what is left of the table make the whole. Assumes nothing.
 use Prim.Native.Nat.{ℕ}
 use native.Mathlib.Nat.{zero-add}
-use mathlib.Core.Path.{_≡_, refl, sym, ap, _∙_}
+use mathlib.Core.Path.{_≡_, sym, ap, _∙_}
 use Prim.Native.Nat.{_≤_, _+_, _-_, _*_}
 use native.Mathlib.Omega.{arith}
 use lib.ListN.{length, take, drop}

@@ -2,7 +2,6 @@
 use mathlib.Core.Path.{ap}
 use Prim.Native.Nat.{_-_}
 use native.Mathlib.Omega.{arith}
-use borrow.Author.Needs.{needs}
 use Rattle.meaning.specs.Step.{Store}
 use Rattle.board.proofs.Running.{Stepping, steps-begin, unfinished, ready-here, one-step, all-advanced, all-done}
 use Rattle.board.proofs.run.take_steps.Statement.{statement}

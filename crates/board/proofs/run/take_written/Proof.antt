@@ -1,6 +1,6 @@
 -- `board::run::take_written` meets its contract: its loop keeps `WrittenLeft`. Assumes nothing.
 use Rattle.board.proofs.Running.{storeOf}
-use mathlib.Core.Path.{sym, ap, _∙_}
+use mathlib.Core.Path.{ap, _∙_}
 use Prim.Native.Nat.{_-_, min}
 use native.Mathlib.Omega.{arith}
 use borrow.Author.Needs.{needs}

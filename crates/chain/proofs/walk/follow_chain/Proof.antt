@@ -1,5 +1,5 @@
 -- `chain::walk::follow_chain` meets its contract: its loop keeps `Walking`, and each return is one of the laws of `Follow`. Assumes nothing.
-use mathlib.Core.Path.{_≡_, refl, sym, ap, _∙_}
+use mathlib.Core.Path.{refl, sym, ap, _∙_}
 use lib.Seq.{length-take-le}
 use Rattle.meaning.specs.Walk.{Chain, reply}
 use Rattle.meaning.proofs.Rows.{not-true, not-false}
