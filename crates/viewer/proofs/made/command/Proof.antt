@@ -1,0 +1,17 @@
+-- `viewer::made::command` meets its contract: `shows-made` at its width, its field and the two that it calls. Assumes nothing.
+use mir.Syntax.{w8}
+use Rattle.meaning.specs.Fields.{command}
+use Rattle.viewer.proofs.Making.{shows-made}
+use Rattle.viewer.proofs.make.Symbol as making
+use Rattle.viewer.proofs.make.Met as makes
+use Rattle.viewer.proofs.command.Symbol as showing
+use Rattle.viewer.proofs.command.Met as shows
+use Rattle.viewer.proofs.made.command.Key.{name}
+use Rattle.viewer.proofs.made.command.Statement.{statement}
+use Rattle.viewer.proofs.made.command.Code as code
+
+pub command-spec : {M : Type 1} → statement M
+unfolding code.routine
+command-spec 𝓤 H 𝓜 𝓖 𝓡 =
+    shows-made 𝓤 H 𝓜 𝓖 𝓡 w8 command code.env name making.name showing.name making.routine showing.routine
+    (code.unfolded 𝓤 H 𝓜 𝓡) code.calls-viewer·make code.calls-viewer·command (makes.met 𝓤 H 𝓜 𝓖 𝓡) (shows.met 𝓤 H 𝓜 𝓖 𝓡)
