@@ -1,0 +1,2 @@
+-- What the contract of this program's reading says.
+pub mod Within

@@ -1,0 +1,45 @@
+-- What a report of a deck means, case by case. Assumes nothing.
+use mathlib.Core.Path.{_≡_}
+use Prim.Native.Nat.{ℕ, _-_, _≤_}
+use mathlib.Core.List.{List, map}
+use lib.ListN.{take, drop, replicate}
+use Rattle.meaning.specs.declared.Drive.{Drive}
+use Rattle.meaning.specs.declared.Record.{Record}
+use Rattle.meaning.specs.Walk.{mostCommands, chainAt}
+use Rattle.meaning.specs.Bench.{noDeck, noChain, ran, runChain}
+use Rattle.meaning.specs.Bench as bench
+use Rattle.deck.specs.declared.Outcome.{Outcome}
+use Rattle.deck.specs.declared.Outcome.the-variants.{NoDeck, NoChain, Ran}
+use Rattle.deck.specs.declared.Report.{Report}
+
+-- the outcome of document 01 for each case, with its codes
+unfoldable pub meant : Outcome → List ℕ → bench.Outcome
+meant NoDeck codes = noDeck
+meant (NoChain n) codes = noChain n
+meant (Ran commands steps) codes = ran (take commands codes) steps
+
+-- the codes of commands
+abbrev pub codesOf : List Record → List ℕ
+codesOf rs = map (λ (r : Record). r .code) rs
+
+-- what comes of the chain at 0 in memory m, with the image i
+abbrev pub chainOutcome : List ℕ → List ℕ → Drive → bench.Outcome
+chainOutcome m i d = runChain d (record { memory = m; image = i }) (chainAt m i d 0)
+
+-- how many codes a case has
+abbrev pub commandsIn : Outcome → ℕ
+commandsIn NoDeck = 0
+commandsIn (NoChain n) = 0
+commandsIn (Ran commands steps) = commands
+
+-- how many steps
+abbrev pub stepsIn : Outcome → ℕ
+stepsIn NoDeck = 0
+stepsIn (NoChain n) = 0
+stepsIn (Ran commands steps) = steps
+
+-- r reports the outcome o: it means it, and its codes past the last command are 0
+pub record Reports (o : bench.Outcome) (r : Report) : Type 0 where
+  pub means : meant (r .outcome) (r .codes) ≡ o
+  pub few : commandsIn (r .outcome) ≤ mostCommands
+  pub rest : drop (commandsIn (r .outcome)) (r .codes) ≡ replicate (mostCommands - commandsIn (r .outcome)) 0
