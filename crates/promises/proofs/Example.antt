@@ -20,5 +20,5 @@ speaks =
       refused = refl;
       counts = refl;
       before = refl;
-      moved = refl
+      moved = refl;
     }
