@@ -1,0 +1,10 @@
+-- First what the walks by hand stand on: a slice lent again, and a loop that lays records. Then what the parts give together is what 01
+-- says; and the statements, each in a file of its own.
+pub mod Lending
+pub mod Moves
+pub mod Fronts
+pub mod ByValue
+pub mod Walks
+pub mod Picks
+pub mod Agree
+pub mod OneReply

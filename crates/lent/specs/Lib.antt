@@ -1,0 +1,4 @@
+pub mod Laid
+pub mod Lent
+pub mod Agree
+pub mod OneReply
