@@ -279,7 +279,7 @@ fn call_one(
 }
 
 // A call.
-pub fn call(
+pub(crate) fn call(
     word: u64,
     values: &[u64],
     memory: &mut [u8],

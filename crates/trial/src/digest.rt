@@ -10,7 +10,7 @@ fn mix(h: u64, b: u8) -> u64 {
     (h % 4_294_967_296 + b as u64) * 16_777_619 % 4_294_967_296
 }
 
-pub fn of_bytes(bytes: &[u8]) -> u64 {
+pub(crate) fn of_bytes(bytes: &[u8]) -> u64 {
     let mut h = START;
     let mut k = 0;
     while k < bytes.len() {
@@ -40,7 +40,7 @@ fn mix_record(h: u64, r: Record) -> u64 {
 }
 
 // The digest of all 40 records.
-pub fn of_records(s: State) -> u64 {
+pub(crate) fn of_records(s: State) -> u64 {
     let mut h = START;
     let mut k = 0;
     while k < state::RECORDS {

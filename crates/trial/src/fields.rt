@@ -33,7 +33,7 @@ fn put_places(memory: &[u8], iopb: u32, out: &mut [u8; BUFFER], at: usize) -> us
 }
 
 // All eighteen fields, in the order of the format.
-pub fn put_fields(memory: &[u8], iopb: u32, out: &mut [u8; BUFFER], at: usize) -> usize {
+pub(crate) fn put_fields(memory: &[u8], iopb: u32, out: &mut [u8; BUFFER], at: usize) -> usize {
     let at = put_command(memory, iopb, out, at);
     let at = put_status(memory, iopb, out, at);
     put_places(memory, iopb, out, at)

@@ -159,7 +159,7 @@ fn with_byte(input: &mut [u8], values: &mut [u64], l: Line) -> Line {
 }
 
 // Reads a line up to its newline, or to the byte at which it leaves the format.
-pub fn read_line(input: &mut [u8], values: &mut [u64], c: Cursor) -> Line {
+pub(crate) fn read_line(input: &mut [u8], values: &mut [u64], c: Cursor) -> Line {
     let mut l = Line {
         stage: WORD,
         word: 0,

@@ -8,7 +8,7 @@ use crate::state::State;
 use crate::words;
 
 // A line outside the format: it is named, and the trial ends.
-pub fn outside(out: &mut [u8; BUFFER], s: State) -> State {
+pub(crate) fn outside(out: &mut [u8; BUFFER], s: State) -> State {
     let at = print::put_text(out, s.out, b"outside the format: line");
     let at = print::put_number(out, at, s.lines);
     let mut next = state::stopped(s);
@@ -79,7 +79,7 @@ fn play_one(
 }
 
 // Plays a line.
-pub fn play(
+pub(crate) fn play(
     word: u64,
     values: &[u64],
     memory: &mut [u8],

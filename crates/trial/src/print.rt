@@ -6,7 +6,7 @@ use libc::STDOUT_FILENO;
 pub const BUFFER: usize = 65_536;
 
 // One byte.
-pub fn put_byte(out: &mut [u8; BUFFER], at: usize, b: u8) -> usize {
+pub(crate) fn put_byte(out: &mut [u8; BUFFER], at: usize, b: u8) -> usize {
     if at < BUFFER {
         out[at] = b;
         return at + 1;
@@ -17,7 +17,7 @@ pub fn put_byte(out: &mut [u8; BUFFER], at: usize, b: u8) -> usize {
 }
 
 // Several bytes.
-pub fn put_text(out: &mut [u8; BUFFER], at: usize, text: &[u8]) -> usize {
+pub(crate) fn put_text(out: &mut [u8; BUFFER], at: usize, text: &[u8]) -> usize {
     let mut next = at;
     let mut k = 0;
     while k < text.len() {
@@ -28,7 +28,7 @@ pub fn put_text(out: &mut [u8; BUFFER], at: usize, text: &[u8]) -> usize {
 }
 
 // A space and a number in decimal.
-pub fn put_number(out: &mut [u8; BUFFER], at: usize, n: u64) -> usize {
+pub(crate) fn put_number(out: &mut [u8; BUFFER], at: usize, n: u64) -> usize {
     let mut digits = [0u8; 20];
     let k = io::decimal(n, &mut digits);
     let next = put_byte(out, at, b' ');
@@ -36,13 +36,13 @@ pub fn put_number(out: &mut [u8; BUFFER], at: usize, n: u64) -> usize {
 }
 
 // Two numbers, each after a space.
-pub fn put_two(out: &mut [u8; BUFFER], at: usize, a: u64, b: u64) -> usize {
+pub(crate) fn put_two(out: &mut [u8; BUFFER], at: usize, a: u64, b: u64) -> usize {
     let next = put_number(out, at, a);
     put_number(out, next, b)
 }
 
 // A space and a digest.
-pub fn put_digest(out: &mut [u8; BUFFER], at: usize, h: u64) -> usize {
+pub(crate) fn put_digest(out: &mut [u8; BUFFER], at: usize, h: u64) -> usize {
     let mut digits = [0u8; 16];
     let k = io::hex(h, 8, &mut digits);
     let next = put_byte(out, at, b' ');
@@ -50,7 +50,7 @@ pub fn put_digest(out: &mut [u8; BUFFER], at: usize, h: u64) -> usize {
 }
 
 // What is left in the buffer goes out.
-pub fn flush(out: &[u8], at: usize) {
+pub(crate) fn flush(out: &[u8], at: usize) {
     if at <= out.len() {
         io::write_all(STDOUT_FILENO, &out[0..at]);
     }

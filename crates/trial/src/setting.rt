@@ -14,7 +14,7 @@ const MOST_U16: u64 = 65_535;
 pub const MOST_U32: u64 = 4_294_967_295;
 
 // `case`, which prints itself.
-pub fn begin(out: &mut [u8; BUFFER], values: &[u64], s: State) -> State {
+pub(crate) fn begin(out: &mut [u8; BUFFER], values: &[u64], s: State) -> State {
     if values.len() != 1 {
         return state::stopped(s);
     }
@@ -76,7 +76,7 @@ fn fill_room(room: &mut [u8], length: u64, first: u64, next: u64, step: u64) -> 
 }
 
 // `memory`. It goes by one step throughout: 512 steps are 0 mod 256, so each sector begins with the same byte.
-pub fn set_memory(room: &mut [u8], values: &[u64], s: State) -> State {
+pub(crate) fn set_memory(room: &mut [u8], values: &[u64], s: State) -> State {
     if values.len() != 3 {
         return state::stopped(s);
     }
@@ -90,7 +90,7 @@ pub fn set_memory(room: &mut [u8], values: &[u64], s: State) -> State {
 }
 
 // `image`.
-pub fn set_image(room: &mut [u8], values: &[u64], s: State) -> State {
+pub(crate) fn set_image(room: &mut [u8], values: &[u64], s: State) -> State {
     if values.len() != 4 {
         return state::stopped(s);
     }
@@ -104,7 +104,7 @@ pub fn set_image(room: &mut [u8], values: &[u64], s: State) -> State {
 }
 
 // Puts the values at the start of a run; false where one is no byte or the run is too short.
-pub fn put_bytes(run: &mut [u8], values: &[u64]) -> bool {
+pub(crate) fn put_bytes(run: &mut [u8], values: &[u64]) -> bool {
     let mut k = 0;
     while k < values.len() {
         let value = values[k];
@@ -121,7 +121,7 @@ pub fn put_bytes(run: &mut [u8], values: &[u64]) -> bool {
 }
 
 // `put` and `disk`: bytes into memory or image.
-pub fn put(run: &mut [u8], values: &[u64], s: State) -> State {
+pub(crate) fn put(run: &mut [u8], values: &[u64], s: State) -> State {
     let n = values.len();
     if n < 2 {
         return state::stopped(s);
@@ -141,7 +141,7 @@ pub fn put(run: &mut [u8], values: &[u64], s: State) -> State {
 }
 
 // `drive`.
-pub fn set_drive(values: &[u64], s: State) -> State {
+pub(crate) fn set_drive(values: &[u64], s: State) -> State {
     if values.len() != 4 {
         return state::stopped(s);
     }
@@ -247,7 +247,7 @@ fn placed(s: State, place: usize, changed: Changed) -> State {
 }
 
 // `record`: a place and seven fields.
-pub fn set_record(values: &[u64], s: State) -> State {
+pub(crate) fn set_record(values: &[u64], s: State) -> State {
     if values.len() != 8 {
         return state::stopped(s);
     }
@@ -260,7 +260,7 @@ pub fn set_record(values: &[u64], s: State) -> State {
 }
 
 // `spoil`: a place, a field and its value.
-pub fn spoil(values: &[u64], s: State) -> State {
+pub(crate) fn spoil(values: &[u64], s: State) -> State {
     if values.len() != 3 {
         return state::stopped(s);
     }
@@ -277,7 +277,7 @@ pub fn spoil(values: &[u64], s: State) -> State {
 }
 
 // `commands`.
-pub fn set_commands(values: &[u64], s: State) -> State {
+pub(crate) fn set_commands(values: &[u64], s: State) -> State {
     if values.len() != 1 {
         return state::stopped(s);
     }
@@ -291,7 +291,7 @@ pub fn set_commands(values: &[u64], s: State) -> State {
 }
 
 // `lent`.
-pub fn set_lent(values: &[u64], s: State) -> State {
+pub(crate) fn set_lent(values: &[u64], s: State) -> State {
     if values.len() != 1 {
         return state::stopped(s);
     }

@@ -37,7 +37,7 @@ fn no_record() -> Record {
 }
 
 // The state before the first line.
-pub fn fresh() -> State {
+pub(crate) fn fresh() -> State {
     let none = no_record();
     State {
         drive: Drive {
@@ -60,7 +60,7 @@ pub fn fresh() -> State {
 }
 
 // The state of a case that begins: all but the places in input and output is fresh.
-pub fn new_case(s: State) -> State {
+pub(crate) fn new_case(s: State) -> State {
     let cursor = s.cursor;
     let mut next = fresh();
     next.lines = s.lines;
@@ -70,14 +70,14 @@ pub fn new_case(s: State) -> State {
 }
 
 // The state at which the trial ends.
-pub fn stopped(s: State) -> State {
+pub(crate) fn stopped(s: State) -> State {
     let mut next = s;
     next.on = false;
     next
 }
 
 // The record at a place from 0 to 39.
-pub fn record_at(s: State, place: usize) -> Record {
+pub(crate) fn record_at(s: State, place: usize) -> Record {
     if place < 32 {
         let table = s.table;
         return table[place];
@@ -90,7 +90,7 @@ pub fn record_at(s: State, place: usize) -> Record {
 }
 
 // The state with another record at a place from 0 to 39.
-pub fn with_record(s: State, place: usize, r: Record) -> State {
+pub(crate) fn with_record(s: State, place: usize, r: Record) -> State {
     let mut next = s;
     if place < 32 {
         next.table[place] = r;
