@@ -1,10 +1,10 @@
 -- A step's moves by the kind of its command, as what they leave of memory and image; and a step as its sector's move and, where it
 -- is the last, the close. Assumes nothing.
-use mathlib.Core.Path.{_≡_, refl, ap, _∙_}
+use mathlib.Core.Path.{_≡_, ap, _∙_}
 use Prim.Native.Nat.{ℕ, _+_, _*_, _<_}
 use native.Mathlib.Omega.{arith}
 use mathlib.Core.Bool.{Bool, true, false, cond}
-use mathlib.Core.List.{List, [], _∷_, _++_}
+use mathlib.Core.List.{List}
 use lib.ListN.{take, drop}
 use lib.Seq.{sets}
 use borrow.Author.Tests.{eq-eqb, ne-eqb, leb-false}
@@ -12,8 +12,9 @@ use Rattle.meaning.specs.declared.Drive.{Drive}
 use Rattle.meaning.specs.declared.Record.{Record}
 use Rattle.meaning.specs.Sectors.{sectorBytes}
 use Rattle.meaning.specs.Command.{reads, writes, transfers, stepsOf, finished}
-use Rattle.meaning.specs.Step.{Store, Move, move, moves, sectorMove, closing, closeMove, step}
+use Rattle.meaning.specs.Step.{Store, Move, moves, sectorMove, closing, closeMove, step}
 use Rattle.meaning.proofs.Rows.{pass, stop}
+use Rattle.meaning.proofs.Moves.{moves-append}
 
 module _ (r : Record) (k : ℕ) (s : Store) where
   abbrev fetched : List ℕ
@@ -33,11 +34,6 @@ module _ (r : Record) (k : ℕ) (s : Store) where
   pub no-move : reads r ≡ false → writes r ≡ false → moves (sectorMove r k) s ≡ s
   unfolding sectorMove moves
   no-move e w = ap (λ (vs : List Move). moves vs s) (pass _ _ _ e ∙ pass _ _ _ w)
-
-moves-append : (vs ws : List Move) (s : Store) → moves (vs ++ ws) s ≡ moves ws (moves vs s)
-unfolding moves
-moves-append [] ws s = refl
-moves-append (v ∷ vs) ws s = moves-append vs ws (move v s)
 
 module _ (d : Drive) (r : Record) (s : Store) where
   -- the store after the sector of the next step has moved

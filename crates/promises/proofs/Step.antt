@@ -3,7 +3,7 @@
 use mathlib.Core.Path.{_≡_, refl, ap, _∙_}
 use Prim.Native.Nat.{ℕ, _+_, _≤_, _<_}
 use mathlib.Core.Bool.{Bool, cond}
-use mathlib.Core.List.{List, [], _∷_, _++_}
+use mathlib.Core.List.{List, [], _∷_}
 use lib.ListN.{length, getD}
 use lib.Seq.{length-sets}
 use lib.Dec.{eqb}
@@ -11,7 +11,8 @@ use Rattle.meaning.specs.declared.Drive.{Drive}
 use Rattle.meaning.specs.declared.Record.{Record}
 use Rattle.meaning.specs.Sectors.{sectorBytes}
 use Rattle.meaning.specs.Command.{stepsOf}
-use Rattle.meaning.specs.Step.{Store, Move, fetch, keep, post, move, moves, sectorMove, closing, closeMove, step}
+use Rattle.meaning.specs.Step.{Store, post, moves, sectorMove, closing, closeMove, step, sectorMoveBy}
+use Rattle.meaning.proofs.Moves.{moves-append}
 use Rattle.promises.specs.Conditions.{Reads, Writes}
 use Rattle.promises.specs.StepMoves.{onImage, inMemory, Last, Posted, Fetched, Kept}
 use Rattle.promises.proofs.Means.{Means, holds, fails, means-eq}
@@ -39,11 +40,6 @@ pub record SectorMoved (r : Record) (s s′ : Store) : Type 0 where
   pub memory-size : length (s′ .memory) ≡ length (s .memory)
   pub image-size : length (s′ .image) ≡ length (s .image)
 
--- the sector's move, by the two tests of the command's kind
-abbrev moveOf : Bool → Bool → Record → List Move
-moveOf a b r =
-    cond a (fetch (onImage r) (inMemory r) sectorBytes ∷ []) (cond b (keep (inMemory r) (onImage r) sectorBytes ∷ []) [])
-
 sector-moved : (r : Record) (s : Store) → SectorMoved r s (moves (sectorMove r (r .taken)) s)
 unfolding sectorMove moves
 sector-moved r s = go (means-reads r) (means-writes r)
@@ -54,7 +50,7 @@ sector-moved r s = go (means-reads r) (means-writes r)
     i : List ℕ
     i = s .image
 
-    go : {a b : Bool} → Means (Reads r) a → Means (Writes r) b → SectorMoved r s (moves (moveOf a b r) s)
+    go : {a b : Bool} → Means (Reads r) a → Means (Writes r) b → SectorMoved r s (moves (sectorMoveBy a b r (r .taken)) s)
     go (holds p) y =
         record {
           fetched = λ _ h. copied-in 0 m i (onImage r) (inMemory r) sectorBytes (h .0) (h .1);
@@ -113,11 +109,6 @@ closed d r s = go (means-eq (r .taken + 1) (stepsOf r))
           image-stays = refl;
           memory-size = refl;
         }
-
-moves-append : (xs ys : List Move) (s : Store) → moves (xs ++ ys) s ≡ moves ys (moves xs s)
-unfolding moves
-moves-append [] ys s = refl
-moves-append (x ∷ xs) ys s = moves-append xs ys (move x s)
 
 -- the two together, with what they leave alone, for any record
 module _ (d : Drive) (r : Record) (s : Store) where
