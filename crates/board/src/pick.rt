@@ -8,7 +8,7 @@ use meaning::Picked;
 use meaning::Record;
 ghost use mathlib.Core.Path.{_≡_};
 ghost use mathlib.Core.Bool.{not, _&&_};
-ghost use Prim.Native.Nat.{_≤_, _<_};
+ghost use Prim.Native.Nat.{_≤_};
 ghost use Rattle.meaning.specs.Command.{finished};
 ghost use Rattle.meaning.specs.Touch.{conflict};
 ghost use Rattle.meaning.specs.Pick as pick;
@@ -77,35 +77,25 @@ pub(crate) fn blocks(e: Record, r: Record) -> bool
     touch::conflict(e, r)
 }
 
-// The command at the place has to wait: an earlier unfinished one conflicts with it.
-fn waits(table: [Record; 32], place: usize) -> bool
-    requires { ⌜ place < 32 ⌝ }
-    ensures { λ b. ⌜ b ≡ pick.waits table place ⌝ }
-{
-    let r = table[place];
-    let mut k = 0;
-    while k < place {
-        if blocks(table[k], r) {
-            return true;
-        }
-        k += 1;
-    }
-    false
-}
-
-// The number of a pick on a table that passed 1 and 9: no such place, finished, waiting, or 0.
-pub(crate) fn place_number(table: [Record; 32], commands: usize, place: usize) -> u8
+// The number of a pick on a table that passed 1 and 9: no such place, finished, waiting (an earlier unfinished command conflicts with
+// it), or 0.
+fn place_number(table: [Record; 32], commands: usize, place: usize) -> u8
     requires { ⌜ commands ≤ 32 ⌝ }
     ensures { λ n. ⌜ n ≡ pick.placeNumber table commands place ⌝ }
 {
     if commands <= place {
         return 8;
     }
-    if command::finished(table[place]) {
+    let r = table[place];
+    if command::finished(r) {
         return 7;
     }
-    if waits(table, place) {
-        return 6;
+    let mut k = 0;
+    while k < place {
+        if blocks(table[k], r) {
+            return 6;
+        }
+        k += 1;
     }
     0
 }

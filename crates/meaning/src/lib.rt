@@ -8,6 +8,7 @@ pub struct Maximum(pub u32);
 pub struct Count(pub u64);
 
 // A drive: its maximum cylinder, head and sector, each counted from zero, and its write-protect mark.
+#[repr(C)]
 pub struct Drive {
     pub cylinder: u16,
     pub head: u8,
@@ -32,6 +33,7 @@ pub struct Copied {
 }
 
 // One accepted command. It holds what cannot be worked out again; its kind, its steps and what it touches follow from these.
+#[repr(C)]
 pub struct Record {
     // where its IOPB is
     pub iopb: u32,

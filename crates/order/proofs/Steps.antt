@@ -88,7 +88,7 @@ smaller d b (r ∷ rs) s =
     let k = min b (remaining r) in
     omega (arith, smaller d (b - k) rs (stepsDone d k r s))
 
-length-written : (d : Drive) (b : ℕ) (t : List Record) (s : Store) → length (written d b t s .table) ≡ length t
+pub length-written : (d : Drive) (b : ℕ) (t : List Record) (s : Store) → length (written d b t s .table) ≡ length t
 unfolding written
 length-written d b [] s = refl
 length-written d b (r ∷ rs) s =

@@ -1,45 +1,20 @@
-// The lines that call the board. Each hands the case's values to one public function, prints what that gives, and answers the
-// state after it; a line outside the format answers a state that is stopped.
-use crate::digest;
+// The lines that call the board. Each hands the case's values to one public function, has what that gives printed, and answers
+// the state after it; a line outside the format answers a state that is stopped.
 use crate::fields;
-use crate::print;
-use crate::print::BUFFER;
-use crate::setting;
-use crate::state;
-use crate::state::State;
-use crate::views;
-use crate::words;
+use cases::answers;
+use cases::setting;
+use cases::state;
+use cases::state::State;
+use cases::words;
 use deck::lines::MOST_BYTES;
 use deck::lines::print_deck;
-use meaning::Picked;
-use meaning::RanPicks;
-use meaning::RanWritten;
+use text::print;
+use text::print::BUFFER;
 
 // The most picks of a line, and the most bytes of a deck: no line has more numbers than that.
 const MOST_PICKS: usize = 256;
 
 pub const MOST_DECK: usize = 1_100;
-
-// The end of most answers: the digests of memory, image and records, and the newline.
-fn end_with_digests(
-    memory: &[u8],
-    image: &[u8],
-    out: &mut [u8; BUFFER],
-    at: usize,
-    s: State,
-) -> State {
-    let at = print::put_digest(out, at, digest::of_bytes(memory));
-    let at = print::put_digest(out, at, digest::of_bytes(image));
-    let at = print::put_digest(out, at, digest::of_records(s));
-    end_line(out, at, s)
-}
-
-// The newline of an answer.
-fn end_line(out: &mut [u8; BUFFER], at: usize, s: State) -> State {
-    let mut next = s;
-    next.out = print::put_byte(out, at, b'\n');
-    next
-}
 
 // `walk START`.
 fn walk(memory: &[u8], image: &[u8], out: &mut [u8; BUFFER], start: u64, s: State) -> State {
@@ -48,13 +23,7 @@ fn walk(memory: &[u8], image: &[u8], out: &mut [u8; BUFFER], start: u64, s: Stat
     }
     let table = s.table;
     let walked = chain::walk::walk(memory, image, s.drive, start as u32, table);
-    let after = walked.table;
-    let mut next = s;
-    next.table = after;
-    next.commands = walked.commands;
-    let at = print::put_text(out, s.out, b"walk");
-    let at = print::put_two(out, at, walked.number as u64, walked.commands as u64);
-    end_with_digests(memory, image, out, at, next)
+    answers::walked(memory, image, out, walked, s)
 }
 
 // `pick PLACE`.
@@ -70,26 +39,7 @@ fn pick(
     }
     let table = s.table;
     let picked = board::pick::pick(memory, image, s.drive, table, s.commands, place as usize);
-    answer_pick(memory, image, out, picked, s)
-}
-
-fn answer_pick(
-    memory: &[u8],
-    image: &[u8],
-    out: &mut [u8; BUFFER],
-    picked: Picked,
-    s: State,
-) -> State {
-    let after = picked.table;
-    let mut next = s;
-    next.table = after;
-    let at = print::put_text(out, s.out, b"pick");
-    let at = print::put_number(out, at, picked.number as u64);
-    end_with_digests(memory, image, out, at, next)
-}
-
-fn bit(b: bool) -> u64 {
-    if b { 1 } else { 0 }
+    answers::picked(memory, image, out, picked, s)
 }
 
 // A run by these picks.
@@ -102,23 +52,7 @@ fn run_picks(
 ) -> State {
     let table = s.table;
     let ran = board::run::run_picks(memory, image, s.drive, table, s.commands, picks);
-    answer_picks(memory, image, out, ran, s)
-}
-
-fn answer_picks(
-    memory: &[u8],
-    image: &[u8],
-    out: &mut [u8; BUFFER],
-    ran: RanPicks,
-    s: State,
-) -> State {
-    let after = ran.table;
-    let mut next = s;
-    next.table = after;
-    let at = print::put_text(out, s.out, b"picks");
-    let at = print::put_two(out, at, ran.number as u64, ran.steps as u64);
-    let at = print::put_two(out, at, ran.refused as u64, bit(ran.finished));
-    end_with_digests(memory, image, out, at, next)
+    answers::ran_picks(memory, image, out, ran, s)
 }
 
 // `picks P P ..`.
@@ -150,31 +84,13 @@ fn written(
 ) -> State {
     let table = s.table;
     let ran = board::run::run_written(memory, image, s.drive, table, s.commands, budget);
-    answer_written(memory, image, out, ran, s)
-}
-
-fn answer_written(
-    memory: &[u8],
-    image: &[u8],
-    out: &mut [u8; BUFFER],
-    ran: RanWritten,
-    s: State,
-) -> State {
-    let after = ran.table;
-    let mut next = s;
-    next.table = after;
-    let at = print::put_text(out, s.out, b"written");
-    let at = print::put_two(out, at, ran.number as u64, ran.steps);
-    let at = print::put_number(out, at, bit(ran.finished));
-    end_with_digests(memory, image, out, at, next)
+    answers::ran_written(memory, image, out, ran, s)
 }
 
 // `steps`.
 fn steps(out: &mut [u8; BUFFER], s: State) -> State {
     let table = s.table;
-    let at = print::put_text(out, s.out, b"steps");
-    let at = print::put_number(out, at, board::run::chain_steps(table, s.commands));
-    end_line(out, at, s)
+    answers::steps(out, board::run::chain_steps(table, s.commands), s)
 }
 
 // `look SECTOR`.
@@ -184,10 +100,7 @@ fn look(image: &[u8], out: &mut [u8; BUFFER], sector: u64, s: State) -> State {
     }
     let number = drive::look_number(image, s.drive, sector as u32);
     let part = drive::look(image, s.drive, sector as u32);
-    let at = print::put_text(out, s.out, b"look");
-    let at = print::put_two(out, at, number as u64, part.len() as u64);
-    let at = print::put_digest(out, at, digest::of_bytes(part));
-    end_line(out, at, s)
+    answers::looked(out, number, part, s)
 }
 
 // `fields ADDRESS`.
@@ -196,8 +109,8 @@ fn show_fields(memory: &[u8], out: &mut [u8; BUFFER], address: u64, s: State) ->
         return state::stopped(s);
     }
     let at = print::put_text(out, s.out, b"fields");
-    let at = fields::put_fields(memory, address as u32, out, at);
-    end_line(out, at, s)
+    let at = fields::put_fields(memory, address as u32, false, out, at);
+    answers::end_line(out, at, s)
 }
 
 // `view ADDRESS`.
@@ -207,8 +120,8 @@ fn view(memory: &[u8], out: &mut [u8; BUFFER], address: u64, s: State) -> State 
     }
     let at = print::put_text(out, s.out, b"view");
     let at = print::put_number(out, at, viewer::view_number(memory, address as u32) as u64);
-    let at = views::put_views(memory, address as u32, out, at);
-    end_line(out, at, s)
+    let at = fields::put_fields(memory, address as u32, true, out, at);
+    answers::end_line(out, at, s)
 }
 
 // The lines of the bench for a deck of these bytes.
@@ -236,12 +149,6 @@ fn play_deck(out: &mut [u8; BUFFER], values: &[u64], s: State) -> State {
     state::stopped(s)
 }
 
-// A call by the lent form, which is not played here: the state stays as it is.
-fn skipped(out: &mut [u8; BUFFER], s: State) -> State {
-    let at = print::put_text(out, s.out, b"skipped");
-    end_line(out, at, s)
-}
-
 // A call with one number.
 fn call_one(
     word: u64,
@@ -251,31 +158,16 @@ fn call_one(
     out: &mut [u8; BUFFER],
     s: State,
 ) -> State {
-    if word == words::WALK {
-        return walk(memory, image, out, value, s);
+    match word {
+        words::WALK => walk(memory, image, out, value, s),
+        words::PICK => pick(memory, image, out, value, s),
+        words::WRITTEN => written(memory, image, out, value, s),
+        words::LOOK => look(image, out, value, s),
+        words::FIELDS => show_fields(memory, out, value, s),
+        words::VIEW => view(memory, out, value, s),
+        words::LENTWALK | words::LENTPICK => answers::skipped(out, s),
+        _ => state::stopped(s),
     }
-    if word == words::PICK {
-        return pick(memory, image, out, value, s);
-    }
-    if word == words::WRITTEN {
-        return written(memory, image, out, value, s);
-    }
-    if word == words::LOOK {
-        return look(image, out, value, s);
-    }
-    if word == words::FIELDS {
-        return show_fields(memory, out, value, s);
-    }
-    if word == words::VIEW {
-        return view(memory, out, value, s);
-    }
-    if word == words::LENTWALK {
-        return skipped(out, s);
-    }
-    if word == words::LENTPICK {
-        return skipped(out, s);
-    }
-    state::stopped(s)
 }
 
 // A call.

@@ -1,4 +1,0 @@
-pub mod Laid
-pub mod Lent
-pub mod Agree
-pub mod OneReply

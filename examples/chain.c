@@ -1,0 +1,44 @@
+/* Lays a chain of IOPBs: numbers of several bytes have the high byte first. */
+#include "chain.h"
+#include "disk.h"
+
+#include <string.h>
+
+enum { CHEN = 0x20 };
+
+static void two_bytes(uint8_t *at, uint16_t number)
+{
+    at[0] = (uint8_t)(number >> 8);
+    at[1] = (uint8_t)number;
+}
+
+static void four_bytes(uint8_t *at, uint32_t number)
+{
+    two_bytes(at, (uint16_t)(number >> 16));
+    two_bytes(at + 2, (uint16_t)number);
+}
+
+/* One IOPB, not yet chained to another. */
+static void lay_iopb(uint8_t *iopb, const wish *w)
+{
+    memset(iopb, 0, ROSADENCA_IOPB_BYTES);
+    iopb[0x00] = w->command;
+    two_bytes(iopb + 0x08, w->count);
+    /* the board wants cylinder, head and sector of the first sector, not its number */
+    two_bytes(iopb + 0x0A, (uint16_t)(w->sector / (HEADS * SECTORS_PER_TRACK)));
+    iopb[0x0C] = (uint8_t)(w->sector / SECTORS_PER_TRACK % HEADS);
+    iopb[0x0D] = (uint8_t)(w->sector % SECTORS_PER_TRACK);
+    four_bytes(iopb + 0x10, w->address);
+}
+
+void lay_chain(uint8_t *memory, const wish *wishes, size_t count)
+{
+    for (size_t k = 0; k < count; k++) {
+        uint8_t *iopb = memory + IOPB_SPACING * k;
+        lay_iopb(iopb, &wishes[k]);
+        if (k + 1 < count) {
+            iopb[0x00] |= CHEN;
+            four_bytes(iopb + 0x14, (uint32_t)(IOPB_SPACING * (k + 1)));
+        }
+    }
+}

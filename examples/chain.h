@@ -1,0 +1,22 @@
+/* A chain of IOPBs, laid in the host's memory as document 01's table of the thirty bytes says. */
+#ifndef CHAIN_H
+#define CHAIN_H
+
+#include "rosadenca.h"
+
+/* What a host wants done by one command. */
+typedef struct {
+    uint8_t command;   /* ROSADENCA_READ_DATA or ROSADENCA_WRITE_DATA */
+    uint32_t sector;   /* the number of the first sector */
+    uint16_t count;    /* how many sectors */
+    uint32_t address;  /* where in memory the data lies */
+    const char *wants; /* the same in words */
+} wish;
+
+/* IOPBs lie 32 bytes apart from address 0 on: they have 30 bytes, and an even address. */
+enum { IOPB_SPACING = 32 };
+
+/* Lays one IOPB for each wish, chained one to the next. */
+void lay_chain(uint8_t *memory, const wish *wishes, size_t count);
+
+#endif

@@ -1,0 +1,104 @@
+//! One call of a board, and its reply, in a form that both sides share.
+
+use crate::declared::{LentRan, LentWalked};
+use std::fmt;
+
+/// A call. `lent` is the length of the table that is lent for it.
+#[derive(Clone, Debug, PartialEq, Eq)]
+pub enum Call {
+    Walk { start: u32, lent: usize },
+    Pick { place: usize, commands: usize, lent: usize },
+    Picks { picks: Vec<u8>, commands: usize, lent: usize },
+    Written { budget: u64, commands: usize, lent: usize },
+    Look { sector: u32 },
+    View { at: u32 },
+}
+
+/// What a call gives.
+#[derive(Clone, Debug, PartialEq, Eq)]
+pub enum Reply {
+    Walked(LentWalked),
+    Picked(u8),
+    Ran(LentRan),
+    /// The number, and where the part of the image lies.
+    Looked {
+        number: u8,
+        at: usize,
+        length: usize,
+    },
+    /// The number of the viewer's making, and its fields in the order of the trial's format.
+    Viewed {
+        number: u8,
+        fields: [u64; 18],
+    },
+}
+
+impl Call {
+    /// The word that the counts have for it.
+    pub fn word(&self) -> &'static str {
+        match self {
+            Call::Walk { .. } => "walk",
+            Call::Pick { .. } => "pick",
+            Call::Picks { .. } => "run by picks",
+            Call::Written { .. } => "run as written",
+            Call::Look { .. } => "look",
+            Call::View { .. } => "view",
+        }
+    }
+}
+
+impl Reply {
+    pub fn number(&self) -> u8 {
+        match self {
+            Reply::Walked(walked) => walked.number,
+            Reply::Picked(number) => *number,
+            Reply::Ran(ran) => ran.number,
+            Reply::Looked { number, .. } | Reply::Viewed { number, .. } => *number,
+        }
+    }
+}
+
+impl fmt::Display for Call {
+    fn fmt(&self, out: &mut fmt::Formatter<'_>) -> fmt::Result {
+        match self {
+            Call::Walk { start, lent } => {
+                write!(out, "walk from {start}, with {lent} records lent")
+            }
+            Call::Pick { place, commands, lent } => {
+                write!(out, "pick {place} of {commands} commands, with {lent} records lent")
+            }
+            Call::Picks { picks, commands, lent } => {
+                write!(out, "picks {picks:?} of {commands} commands, with {lent} records lent")
+            }
+            Call::Written { budget, commands, lent } => write!(
+                out,
+                "run as written, budget {budget}, of {commands} commands, with {lent} records lent"
+            ),
+            Call::Look { sector } => write!(out, "look at sector {sector}"),
+            Call::View { at } => write!(out, "view at {at}"),
+        }
+    }
+}
+
+impl fmt::Display for Reply {
+    fn fmt(&self, out: &mut fmt::Formatter<'_>) -> fmt::Result {
+        match self {
+            Reply::Walked(walked) => {
+                write!(out, "number {}, {} commands", walked.number, walked.commands)
+            }
+            Reply::Picked(number) => write!(out, "number {number}"),
+            Reply::Ran(ran) => write!(
+                out,
+                "number {}, {} steps, {} refused, {}",
+                ran.number,
+                ran.steps,
+                ran.refused,
+                if ran.finished { "finished" } else { "not finished" }
+            ),
+            Reply::Looked { number, at, length } => {
+                write!(out, "number {number}, {length} bytes at {at}")
+            }
+            Reply::Viewed { number, fields } => write!(out, "number {number}, fields {fields:?}"),
+        }
+    }
+}

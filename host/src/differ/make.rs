@@ -1,0 +1,170 @@
+//! Makes and plays the n-th chain of a seed. The seed and the chain's number decide everything.
+
+use crate::boards::Board;
+use crate::differ::acts::{act, look_around, walk};
+use crate::differ::call::Call;
+use crate::differ::counts::Counts;
+use crate::differ::play::{Play, Played};
+use second::board::SECTOR_BYTES;
+use second::makers::chain::random_chain;
+use second::makers::ground::{ground, limit_ground};
+use second::makers::rng::Rng;
+use second::makers::script::Script;
+use second::record::Record;
+
+/// Plays one chain on both sides. The error says which call differed, and what each gave.
+pub fn play_chain(board: &Board, seed: u64, n: u64, counts: &mut Counts, tell: bool) -> Played {
+    counts.chains += 1;
+    let mut play = Play::new(board, Rng::for_case(seed, n), counts, tell);
+    match play.rng.below(100) {
+        0..=83 => chain(&mut play),
+        84..=91 => table_by_hand(&mut play),
+        92..=95 => sizes(&mut play),
+        _ => views(&mut play),
+    }
+}
+
+/// The ground of a chain: drive, memory and image, as the second program's makers give it.
+fn lay_ground(play: &mut Play, make: fn(&mut Rng, &mut Script)) {
+    let mut script = Script::default();
+    make(&mut play.rng, &mut script);
+    let board = script.state.board;
+    play.say(|| format!("{:?}, memory of {} bytes", board.drive, board.memory.len()));
+    play.sides.set_drive(board.drive);
+    play.sides.set_memory(board.memory);
+    play.sides.set_image(board.image);
+}
+
+/// A random chain, put in memory over a few random bytes.
+fn lay_chain(play: &mut Play) {
+    let memory = play.sides.ground().memory.len();
+    for _ in 0..play.rng.below(4) {
+        if memory >= 4 {
+            let at = play.rng.between(0, memory as u64 - 4) as usize;
+            let bytes = play.rng.bytes(4);
+            play.sides.put(at, &bytes);
+        }
+    }
+    play.chain = random_chain(&mut play.rng, play.sides.ground());
+    for (at, block) in play.chain.blocks.clone() {
+        play.say(|| format!("IOPB at {at}: {:02X?}", block.bytes));
+        play.sides.put(at as usize, &block.bytes);
+    }
+}
+
+/// The usual case: a chain, a walk, steps in many ways, then the rest as written.
+fn chain(play: &mut Play) -> Played {
+    lay_ground(play, ground);
+    lay_chain(play);
+    if play.rng.percent(12) {
+        let start = false_start(play);
+        walk(play, start)?;
+    }
+    let start = play.chain.start as u32;
+    walk(play, start)?;
+    let acts = if play.commands == 0 { 1 } else { play.rng.between(1, 6) };
+    for _ in 0..acts {
+        act(play)?;
+    }
+    if play.rng.percent(75) {
+        let budget = play.rng.one_of(&[u64::MAX, 100_000, 1 << 32]);
+        play.call(Call::Written { budget, commands: play.commands, lent: 32 })?;
+        look_around(play)?;
+    }
+    if play.rng.percent(8) {
+        // The same chain again, over whatever the data left of it.
+        walk(play, start)?;
+        let budget = play.rng.below(6);
+        play.call(Call::Written { budget, commands: play.commands, lent: 32 })?;
+    }
+    Ok(())
+}
+
+/// A walk from a wrong place.
+fn false_start(play: &mut Play) -> u32 {
+    let memory = play.sides.ground().memory.len() as u64;
+    let last = memory.saturating_sub(30);
+    let rng = &mut play.rng;
+    let start = match rng.below(6) {
+        0 => 2 * rng.below(memory / 2 + 20) + 1,
+        1 => last / 2 * 2 + 2,
+        2 => rng.one_of(&[0xFFFF_FFFF, 0xFFFF_FFFE, 0xFFFF_FFE2, 65_536]),
+        3 => last,
+        _ => rng.between(0, last),
+    };
+    start as u32
+}
+
+/// A table made by hand, with no walk before: IOPBs may meet, as no walk lets them.
+fn table_by_hand(play: &mut Play) -> Played {
+    lay_ground(play, ground);
+    let records = if play.rng.once_in(8) { 32 } else { play.rng.between(1, 8) };
+    for place in 0..records {
+        let record = random_record(play);
+        play.say(|| format!("record {place}: {record:?}"));
+        play.sides.set_record(place as usize, record);
+    }
+    play.commands = records as usize;
+    for _ in 0..play.rng.between(2, 6) {
+        act(play)?;
+    }
+    play.call(Call::Written { budget: u64::MAX, commands: play.commands, lent: 32 })?;
+    Ok(())
+}
+
+/// A record that is mostly sound.
+fn random_record(play: &mut Play) -> Record {
+    let (memory, drive) = (play.sides.ground().memory_bytes(), play.sides.ground().drive);
+    let rng = &mut play.rng;
+    let sectors = drive.number_of_sectors();
+    let count = rng.between(1, sectors.min(memory / SECTOR_BYTES).clamp(1, 4));
+    let last_place = memory.saturating_sub(30);
+    let command = rng.one_of(&[0, 1, 1, 2, 2, 2, 7]);
+    let mut record = Record {
+        iopb: rng.one_of(&[0, 2, 3, 4, 30, last_place]).min(last_place) as u32,
+        data: rng.between(0, memory.saturating_sub(count * SECTOR_BYTES)) as u32,
+        sector: rng.between(0, sectors - count) as u32,
+        taken: 0,
+        count: count as u16,
+        byte0: rng.byte() & 0xF0 | command,
+        code: if (command == 1 && drive.protected) || rng.once_in(6) { 0x90 } else { 0 },
+    };
+    if !record.is_transfer() && rng.percent(50) {
+        // Nothing of these is looked at where nothing moves.
+        (record.data, record.sector) = (rng.next() as u32, rng.next() as u32);
+        record.count = rng.next() as u16;
+    }
+    if rng.once_in(4) {
+        record.taken = rng.between(0, record.steps()) as u32;
+    }
+    record
+}
+
+/// Sizes at and past the limits.
+fn sizes(play: &mut Play) -> Played {
+    lay_ground(play, limit_ground);
+    lay_chain(play);
+    let start = play.chain.start as u32;
+    walk(play, start)?;
+    act(play)?;
+    look_around(play)?;
+    play.call(Call::Written { budget: u64::MAX, commands: play.commands, lent: 32 })?;
+    Ok(())
+}
+
+/// Views over random bytes in a small memory.
+fn views(play: &mut Play) -> Played {
+    let length = play.rng.between(0, 100);
+    let memory = play.rng.bytes(length);
+    play.sides.set_memory(memory);
+    for _ in 0..play.rng.between(3, 10) {
+        let at = match play.rng.below(10) {
+            0 => play.rng.one_of(&[0xFFFF_FFFF, 0xFFFF_FFFE, 0xFFFF_FFE2]),
+            1 => length.saturating_sub(30),
+            2 => length.saturating_sub(30) + play.rng.between(1, 2),
+            _ => play.rng.below(length + 2),
+        };
+        play.call(Call::View { at: at as u32 })?;
+    }
+    Ok(())
+}

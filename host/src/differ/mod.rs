@@ -1,0 +1,10 @@
+//! Random chains, played on a board and on the second program side by side: after every call the
+//! replies and every byte of memory, image and table must be the same.
+
+pub mod acts;
+pub mod call;
+pub mod counts;
+pub mod make;
+pub mod play;
+pub mod sides;
+pub mod spoil;

@@ -1,0 +1,175 @@
+//! Spoils one thing, the table, the number of commands, the protect mark or a size, at both sides of
+//! its line; calls; and mostly puts it back.
+
+use crate::differ::acts::call_on_table;
+use crate::differ::call::Call;
+use crate::differ::play::{Play, Played};
+use second::board::{Drive, SECTOR_BYTES};
+use second::makers::ground::other_drive;
+use second::makers::rng::Rng;
+use second::record::Record;
+use second::trial::line::{field_of, set_field};
+
+/// The most that each of the seven fields of a record may be, in the order of the trial's format.
+const FIELD_MOST: [u64; 7] =
+    [0xFFFF_FFFF, 0xFFFF_FFFF, 0xFFFF_FFFF, 0xFFFF_FFFF, 0xFFFF, 0xFF, 0xFF];
+
+pub fn spoil_and_call(play: &mut Play) -> Played {
+    match play.rng.below(10) {
+        0 => spoil_commands(play),
+        1 => spoil_protection(play),
+        _ => spoil_field(play),
+    }
+}
+
+fn some_calls(play: &mut Play) -> Played {
+    for _ in 0..play.rng.between(1, 3) {
+        call_on_table(play)?;
+    }
+    Ok(())
+}
+
+/// The number of commands, at and past what the table holds, and where 32 bits would wrap.
+fn spoil_commands(play: &mut Play) -> Played {
+    let right = play.commands;
+    let wrap = 1 << 32;
+    let wrong =
+        [0, right.saturating_sub(1), right + 1, 32, 33, 33, 40, wrap, wrap + right, usize::MAX];
+    play.commands = play.rng.one_of(&wrong);
+    some_calls(play)?;
+    // A number over 32 stays only for the calls that are to meet it.
+    if play.commands > 32 || play.rng.percent(80) {
+        play.commands = right;
+    }
+    Ok(())
+}
+
+/// The protect mark changes between the walk and the steps.
+fn spoil_protection(play: &mut Play) -> Played {
+    let right = play.sides.ground().drive;
+    play.say(|| format!("the protect mark becomes {}", !right.protected));
+    play.sides.set_drive(Drive { protected: !right.protected, ..right });
+    some_calls(play)?;
+    if play.rng.percent(80) {
+        play.sides.set_drive(right);
+    }
+    Ok(())
+}
+
+/// One field of one record; now and then a record past those in use, which must not matter.
+fn spoil_field(play: &mut Play) -> Played {
+    let records = play.commands.min(32) + usize::from(play.rng.once_in(8));
+    let place = play.rng.below(records.max(1) as u64) as usize;
+    let right = play.sides.table()[place];
+    let field = play.rng.one_of(&[0, 0, 0, 1, 2, 3, 3, 4, 4, 5, 6]);
+    let value = wrong_value(play, &right, field);
+    let mut wrong = right;
+    set_field(&mut wrong, field, value);
+    if play.rng.once_in(12) {
+        let taken = wrong_value(play, &right, 3);
+        set_field(&mut wrong, 3, taken);
+    }
+    play.say(|| format!("record {place} becomes {wrong:?}"));
+    play.sides.set_record(place, wrong);
+    some_calls(play)?;
+    if play.rng.percent(75) {
+        let mut mended = play.sides.table()[place];
+        set_field(&mut mended, field, field_of(&right, field));
+        play.say(|| format!("record {place} becomes {mended:?}"));
+        play.sides.set_record(place, mended);
+    }
+    Ok(())
+}
+
+/// A value of a field at one of its lines, or just beside.
+fn wrong_value(play: &mut Play, record: &Record, field: u64) -> u64 {
+    let memory = play.sides.ground().memory_bytes();
+    let sectors = play.sides.ground().drive.number_of_sectors();
+    let other = play.rng.below(play.commands.clamp(1, 32) as u64) as usize;
+    let other_iopb = u64::from(play.sides.table()[other].iopb);
+    let rng = &mut play.rng;
+    let value = match field {
+        // Two records whose status bytes meet.
+        0 if rng.percent(45) => other_iopb + rng.below(6),
+        0 => beside(rng, memory.saturating_sub(30)),
+        1 => beside(rng, memory.saturating_sub(record.data_bytes())),
+        2 => beside(rng, sectors.saturating_sub(u64::from(record.count))),
+        3 => beside(rng, record.steps()),
+        4 => wrong_count(rng, memory, sectors, record),
+        5 => u64::from(record.byte0 & 0xF0) | rng.one_of(&[0, 1, 1, 2, 2, 3, 7, 15]),
+        _ => rng.one_of(&[0, 0, 0x10, 0x14, 0x90, 0xFF]),
+    };
+    value.min(FIELD_MOST[field as usize])
+}
+
+/// Just at a line, or one to either side; now and then where 32 bits would wrap.
+fn beside(rng: &mut Rng, line: u64) -> u64 {
+    if rng.once_in(6) {
+        return rng.one_of(&[0xFFFF_FFFF, 0xFFFF_FFE2, (1 << 32) - SECTOR_BYTES]);
+    }
+    rng.one_of(&[line.saturating_sub(1), line, line, line + 1, line + 1])
+}
+
+/// Counts at zero, at the steps taken, at the end of memory and of the drive.
+fn wrong_count(rng: &mut Rng, memory: u64, sectors: u64, record: &Record) -> u64 {
+    let taken = u64::from(record.taken);
+    let fit_memory = memory.saturating_sub(u64::from(record.data)) / SECTOR_BYTES;
+    let fit_drive = sectors.saturating_sub(u64::from(record.sector));
+    let fit = fit_memory.min(fit_drive);
+    rng.one_of(&[0, 0, taken, taken.saturating_sub(1), fit, fit + 1, fit_drive + 1, 0xFFFF])
+}
+
+/// Makes drive, image or memory of the wrong size, calls, and mends it.
+pub fn wrong_size_and_call(play: &mut Play) -> Played {
+    match play.rng.below(8) {
+        0..=4 => {
+            let right = play.sides.ground().drive;
+            let wrong = other_drive(&mut play.rng, right);
+            play.say(|| format!("the drive becomes {wrong:?}"));
+            play.sides.set_drive(wrong);
+            calls_on_sizes(play)?;
+            play.sides.set_drive(right);
+        }
+        5 | 6 => {
+            let right = play.sides.ground().image.clone();
+            let full = right.len();
+            let wrong =
+                [0, 1, full.saturating_sub(1), full + 1, full.saturating_sub(512), full + 512];
+            let mut image = right.clone();
+            image.resize(play.rng.one_of(&wrong), 0x5A);
+            play.say(|| format!("the image has {} bytes", image.len()));
+            play.sides.set_image(image);
+            calls_on_sizes(play)?;
+            play.sides.set_image(right);
+        }
+        _ => {
+            let mut memory = play.sides.ground().memory.clone();
+            memory.resize(play.rng.one_of(&[65_536, 65_537, 66_560]), 0xA5);
+            play.say(|| format!("memory has {} bytes", memory.len()));
+            play.sides.set_memory(memory);
+            calls_on_sizes(play)?;
+        }
+    }
+    Ok(())
+}
+
+/// Calls that meet a wrong size; one that looks meets only the image's.
+fn calls_on_sizes(play: &mut Play) -> Played {
+    for _ in 0..play.rng.between(1, 3) {
+        if play.rng.percent(25) {
+            let sector = play.rng.below(40) as u32;
+            play.call(Call::Look { sector })?;
+        } else {
+            call_on_table(play)?;
+        }
+    }
+    if play.rng.percent(25) {
+        // Its commands are not taken over: the table is still the one of the walk before.
+        let start = 2 * play.rng.below(20) as u32;
+        let saved = play.commands;
+        if play.call(Call::Walk { start, lent: 32 })?.number() != 0 {
+            play.commands = saved;
+        }
+    }
+    Ok(())
+}

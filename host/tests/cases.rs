@@ -1,0 +1,94 @@
+//! Cases in the format of docs/TRIAL.md, played over the archive and by the second program: every
+//! line printed must be the same.
+
+use host::player::play_cases;
+use second::makers::cases::random_case;
+use second::makers::decks::deck_case;
+use second::makers::lines::all_lines;
+use second::trial::stream::run_cases;
+use std::fs::read_to_string;
+use std::path::Path;
+
+/// What the archive prints for cases; the error is the player's.
+fn by_archive(cases: &str) -> Result<String, String> {
+    let mut out = Vec::new();
+    play_cases(cases.as_bytes(), &mut out)?;
+    Ok(String::from_utf8(out).expect("the player prints text"))
+}
+
+/// Plays cases, which must print what the second program prints for them.
+fn hold(cases: &str) {
+    let mut expected = Vec::new();
+    run_cases(cases.as_bytes(), &mut expected).expect("the second program takes the cases");
+    same(cases, &String::from_utf8(expected).expect("the second program prints text"));
+}
+
+/// Plays a stored file of cases, which must print what is stored beside it.
+fn hold_stored(cases: &str, expected: &str) {
+    let read = |name: &str| {
+        let path = Path::new(env!("CARGO_MANIFEST_DIR")).join(name);
+        read_to_string(&path).unwrap_or_else(|error| panic!("{}: {error}", path.display()))
+    };
+    same(&read(cases), &read(expected));
+}
+
+fn same(cases: &str, expected: &str) {
+    let given = by_archive(cases).expect("the player takes the cases");
+    let lines = given.lines().zip(expected.lines());
+    for (number, (mine, its)) in lines.enumerate() {
+        assert_eq!(mine, its, "line {} of the output", number + 1);
+    }
+    assert_eq!(given.len(), expected.len(), "one of the two prints more");
+}
+
+#[test]
+fn the_cases_made_by_hand() {
+    hold(&all_lines().text());
+}
+
+#[test]
+fn random_cases() {
+    hold(&(0..1_000).map(|n| random_case(5, n).text()).collect::<String>());
+}
+
+#[test]
+fn random_decks() {
+    hold(&(0..100).map(|n| deck_case(5, n)).collect::<String>());
+}
+
+/// The stored cases, which `trial` plays by value: over a lent table they print the same.
+#[test]
+fn stored_cases() {
+    hold_stored("../crates/trial/stdin", "../crates/trial/stdout");
+}
+
+/// The stored cases whose images are too large for `trial`.
+#[test]
+fn stored_cases_with_large_images() {
+    hold_stored("cases/large.cases", "cases/large.expected");
+}
+
+/// A run over a lent table: as by value with 32 records or more, refused with fewer.
+#[test]
+fn runs_over_a_lent_table() {
+    let ground = "case 1\ndrive 0 0 1 0\nmemory 1024 0 0\nimage 1024 7 1 0\n\
+        put 0 34 0 0 0 0 0 0 0 0 1 0 0 0 1 0 0 0 0 2 0 0 0 0 32\n\
+        put 32 1 0 0 0 0 0 0 0 0 1 0 0 0 0 0 0 0 0 2 0\nwalk 0\n";
+    for call in ["picks 1 0 0", "written 1"] {
+        let by_value = by_archive(&format!("{ground}{call}\n")).expect("cases");
+        let last = by_value.lines().last().expect("a line");
+        let lent = by_archive(&format!("{ground}lent 40\nlent{call}\n")).expect("cases");
+        assert_eq!(lent.lines().last(), Some(format!("lent{last}").as_str()));
+        let short = by_archive(&format!("{ground}lent 31\nlent{call}\n")).expect("cases");
+        let word = call.split(' ').next().expect("a word");
+        let refused = format!("lent{word} 1 0 ");
+        let line = short.lines().last().expect("a line");
+        assert!(line.starts_with(&refused), "{line:?} does not start with {refused:?}");
+    }
+}
+
+#[test]
+fn a_line_outside_the_format_is_named() {
+    let error = by_archive("case 1\nwalk 0\nwalks 0\n").expect_err("no line has the word walks");
+    assert!(error.starts_with("line 3: "), "{error}");
+}

@@ -1,0 +1,169 @@
+//! Holds what C and Rust declare to the firmware's source: every exported function with its
+//! parameters, every struct with its fields; and has a C compiler say that C lays the structs out
+//! as Rust does.
+
+mod reading;
+
+use host::declared::{Drive, LentRan, LentWalked, Part, Record};
+use reading::{c_header, differences, rattle, rust, Declared};
+use std::mem::{align_of, offset_of, size_of};
+use std::path::{Path, PathBuf};
+use std::process::Command;
+
+fn repository() -> PathBuf {
+    Path::new(env!("CARGO_MANIFEST_DIR")).join("..")
+}
+
+fn file(path: &str) -> String {
+    let path = repository().join(path);
+    std::fs::read_to_string(&path).unwrap_or_else(|error| panic!("{}: {error}", path.display()))
+}
+
+/// The firmware's source files, and the crate whose types they speak of.
+fn source() -> Declared {
+    let folder = repository().join("crates/firmware/src");
+    let entries =
+        std::fs::read_dir(&folder).unwrap_or_else(|error| panic!("{}: {error}", folder.display()));
+    let paths = entries.map(|entry| entry.expect("the folder can be read").path());
+    let rattle_files = paths.filter(|path| path.extension().is_some_and(|end| end == "rt"));
+    let mut files: Vec<String> =
+        rattle_files.map(|path| std::fs::read_to_string(path).expect("a source file")).collect();
+    files.push(file("crates/meaning/src/lib.rt"));
+    rattle::declared(&files)
+}
+
+fn hold(name: &str, declared: &Declared) {
+    let source = source();
+    assert!(source.functions.len() > 20 && source.structs.len() == 5, "the source was not read");
+    let found = differences(("the source", &source), (name, declared));
+    assert!(found.is_empty(), "{name} is not what the source exports:\n{}", found.join("\n"));
+}
+
+#[test]
+fn the_header_declares_what_the_source_exports() {
+    hold("the C header", &c_header::declared(&file("include/rosadenca.h")));
+}
+
+#[test]
+fn the_wrapper_declares_what_the_source_exports() {
+    hold("the Rust wrapper", &rust::declared(&file("host/src/declared.rs")));
+}
+
+/// Every name that is followed by a mistake of one kind must be told apart.
+#[test]
+fn a_changed_declaration_is_found() {
+    let header = file("include/rosadenca.h");
+    let right = c_header::declared(&header);
+    for (old, new) in [
+        ("uint16_t count;", "uint32_t count;"),
+        ("uint32_t address;", "uint32_t data;"),
+        ("    uint8_t byte0;", ""),
+        ("uint64_t budget", "uint32_t budget"),
+        ("size_t commands, size_t place", "size_t place, size_t commands"),
+        ("const uint8_t *picks", "uint8_t *picks"),
+        ("uint8_t rosadenca_unit(", "uint8_t rosadenca_units("),
+        ("uint32_t rosadenca_data_address(", "uint16_t rosadenca_data_address("),
+    ] {
+        assert!(header.contains(old), "the header has no {old:?} to change");
+        let changed = c_header::declared(&header.replacen(old, new, 1));
+        let found = differences(("the header", &right), ("the changed one", &changed));
+        assert!(!found.is_empty(), "{old:?} changed to {new:?} was not found");
+    }
+}
+
+/// A line for C: what it must agree to of one struct or one field of it.
+fn assertion(of: &str, is: usize) -> String {
+    format!("_Static_assert({of} == {is}, \"{of} is {is}\");\n")
+}
+
+macro_rules! layout {
+    ($text:ident, $rust:ty, $c:literal, $(($field:ident, $in_c:literal)),+) => {
+        $text += &assertion(concat!("sizeof(", $c, ")"), size_of::<$rust>());
+        $text += &assertion(concat!("_Alignof(", $c, ")"), align_of::<$rust>());
+        $($text += &assertion(concat!("offsetof(", $c, ", ", $in_c, ")"), offset_of!($rust, $field));)+
+    };
+}
+
+/// One line for each size and each offset that Rust has.
+fn assertions() -> String {
+    let mut text = String::from("#include \"rosadenca.h\"\n");
+    layout!(
+        text,
+        Drive,
+        "rosadenca_drive",
+        (cylinder, "cylinder"),
+        (head, "head"),
+        (sector, "sector"),
+        (protected, "write_protected")
+    );
+    layout!(
+        text,
+        Record,
+        "rosadenca_record",
+        (iopb, "iopb"),
+        (address, "address"),
+        (sector, "sector"),
+        (taken, "taken"),
+        (count, "count"),
+        (byte0, "byte0"),
+        (code, "code")
+    );
+    layout!(text, LentWalked, "rosadenca_lent_walked", (number, "number"), (commands, "commands"));
+    layout!(
+        text,
+        LentRan,
+        "rosadenca_lent_ran",
+        (steps, "steps"),
+        (refused, "refused"),
+        (number, "number"),
+        (finished, "finished")
+    );
+    layout!(text, Part, "rosadenca_part", (at, "at"), (length, "length"));
+    text
+}
+
+/// Whether the C compiler takes this text, and what it says.
+fn compiles(name: &str, text: &str) -> Result<(), String> {
+    let path = Path::new(env!("CARGO_TARGET_TMPDIR")).join(name);
+    std::fs::write(&path, text).expect("the file for C can be written");
+    let ran = Command::new("cc")
+        .args(["-std=c11", "-Wall", "-Wextra", "-Wpedantic", "-Werror", "-fsyntax-only", "-I"])
+        .arg(repository().join("include"))
+        .arg(&path)
+        .output()
+        .expect("'cc', the C compiler, can be run");
+    if ran.status.success() {
+        return Ok(());
+    }
+    Err(String::from_utf8_lossy(&ran.stderr).into_owned())
+}
+
+/// The limits that the header names are those that the second program has from document 01.
+#[test]
+fn the_headers_limits_are_the_second_programs() {
+    let limits = [
+        ("ROSADENCA_MEMORY_LIMIT", second::board::MEMORY_LIMIT),
+        ("ROSADENCA_IMAGE_LIMIT", second::board::IMAGE_LIMIT),
+        ("ROSADENCA_SECTOR_BYTES", second::board::SECTOR_BYTES),
+        ("ROSADENCA_MOST_COMMANDS", second::record::MOST_COMMANDS),
+        ("ROSADENCA_IOPB_BYTES", second::iopb::IOPB_BYTES),
+    ];
+    let lines = limits.map(|(name, limit)| assertion(name, limit as usize)).concat();
+    if let Err(said) = compiles("limits.c", &format!("#include \"rosadenca.h\"\n{lines}")) {
+        panic!("{said}");
+    }
+}
+
+#[test]
+fn c_lays_the_structs_out_as_rust_does() {
+    let text = assertions();
+    // every field of every struct has its line
+    let fields: usize = source().structs.values().map(Vec::len).sum();
+    assert_eq!(text.matches("(offsetof(").count(), fields, "a field has no line");
+    if let Err(said) = compiles("layout.c", &text) {
+        panic!("{said}");
+    }
+    let wrong = text.replace("sizeof(rosadenca_record) == 20", "sizeof(rosadenca_record) == 24");
+    assert_ne!(text, wrong, "a record has 20 bytes");
+    assert!(compiles("wrong_layout.c", &wrong).is_err(), "the C compiler takes a wrong size");
+}

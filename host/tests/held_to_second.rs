@@ -1,0 +1,121 @@
+//! Random chains: the archive and the ordinary board are held to the second program, every number
+//! and code comes up, and a board with a fault is found out.
+
+use host::boards::{Board, ARCHIVE, ORDINARY};
+use host::declared::LentRan;
+use host::differ::counts::Counts;
+use host::differ::make::play_chain;
+
+const CHAINS: u64 = 3_000;
+
+/// Plays chains on a board; the error is the first difference.
+fn played(board: &Board, seed: u64) -> Result<Counts, String> {
+    let mut counts = Counts::default();
+    for n in 0..CHAINS {
+        play_chain(board, seed, n, &mut counts, false)
+            .map_err(|what| format!("seed {seed}, chain {n}, {what}"))?;
+    }
+    Ok(counts)
+}
+
+fn hold(board: &Board, seed: u64) {
+    let counts = played(board, seed).unwrap_or_else(|what| panic!("{what}"));
+    assert_eq!(counts.never(), Vec::<String>::new(), "these never came up");
+    assert!(counts.strange().is_empty(), "no rule gives these: {:?}", counts.strange());
+}
+
+#[test]
+fn the_archive_is_held_to_the_second_program() {
+    hold(&ARCHIVE, 7);
+}
+
+#[test]
+fn the_ordinary_board_is_held_to_the_second_program() {
+    hold(&ORDINARY, 8);
+}
+
+fn must_be_found(what: &str, faulty: Board) {
+    assert!(played(&faulty, 9).is_err(), "a board that {what} was not found out");
+}
+
+#[test]
+fn a_faulty_reply_is_found() {
+    must_be_found(
+        "counts refused picks as steps",
+        Board {
+            run_picks: |memory, image, drive, table, commands, picks| {
+                let ran = (ORDINARY.run_picks)(memory, image, drive, table, commands, picks);
+                LentRan { steps: ran.steps + ran.refused, ..ran }
+            },
+            ..ORDINARY
+        },
+    );
+    must_be_found(
+        "takes 32 bits of the number of commands",
+        Board {
+            pick: |memory, image, drive, table, commands, place| {
+                let commands = commands as u32 as usize;
+                (ORDINARY.pick)(memory, image, drive, table, commands, place)
+            },
+            ..ORDINARY
+        },
+    );
+    must_be_found(
+        "gives the unit's low two bits",
+        Board {
+            view: |memory, at| {
+                let mut fields = (ORDINARY.view)(memory, at);
+                fields.unit &= 3;
+                fields
+            },
+            ..ORDINARY
+        },
+    );
+}
+
+#[test]
+fn a_fault_that_leaves_the_reply_right_is_found() {
+    must_be_found(
+        "clears the record past the last command",
+        Board {
+            walk: |memory, image, drive, start, table| {
+                let walked = (ORDINARY.walk)(memory, image, drive, start, table);
+                if let Some(record) = table.get_mut(walked.commands) {
+                    record.iopb = 0;
+                }
+                walked
+            },
+            ..ORDINARY
+        },
+    );
+    must_be_found(
+        "posts a status on a refusal",
+        Board {
+            pick: |memory, image, drive, table, commands, place| {
+                let number = (ORDINARY.pick)(memory, image, drive, table, commands, place);
+                if number == 6 {
+                    memory[table[place].iopb as usize + 3] ^= 1;
+                }
+                number
+            },
+            ..ORDINARY
+        },
+    );
+}
+
+#[test]
+fn a_changed_byte_far_from_the_chain_is_found() {
+    must_be_found(
+        "changes the image's last byte in a run",
+        Board {
+            run_written: |memory, image, drive, table, commands, budget| {
+                let ran = (ORDINARY.run_written)(memory, image, drive, table, commands, budget);
+                if ran.steps > 0 {
+                    *image.last_mut().expect("a sound image has sectors") ^= 1;
+                }
+                ran
+            },
+            ..ORDINARY
+        },
+    );
+}

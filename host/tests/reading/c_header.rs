@@ -1,0 +1,96 @@
+//! What the C header declares, in the words of Rust: `const uint8_t *memory` is `memory: *const
+//! u8`, and `rosadenca_lent_ran` is `LentRan`.
+
+use super::{inside, one_line, Declared};
+
+/// C++ keeps the word `protected` for itself, so the header has another for that one field.
+const OTHER_WORDS: [(&str, &str); 1] = [("write_protected", "protected")];
+
+/// Reads the header.
+pub fn declared(file: &str) -> Declared {
+    let text = without_the_rest(file);
+    let mut declared = Declared::default();
+    let mut rest = text.as_str();
+    while let Some(at) = rest.find("typedef struct ") {
+        let (before, from) = rest.split_at(at);
+        read_functions(before, &mut declared);
+        let open = from.find('{').expect("a struct has fields");
+        let name = from["typedef struct ".len()..open].trim();
+        let fields = inside(&from[open..], '{', '}');
+        let after = &from[open + fields.len() + 2..];
+        let (again, after) = after.split_once(';').expect("a typedef ends");
+        assert_eq!(name, again.trim(), "a struct and its typedef have one name");
+        let fields = fields.split(';').map(one_line).filter(|field| !field.is_empty());
+        let fields = fields.map(|field| name_and_type(&field)).collect();
+        declared.structs.insert(struct_name(name).expect("our structs have our prefix"), fields);
+        rest = after;
+    }
+    read_functions(rest, &mut declared);
+    declared
+}
+
+/// The header without its comments, its lines for the preprocessor and its enums of constants.
+fn without_the_rest(file: &str) -> String {
+    let mut text = String::new();
+    let mut rest = file;
+    while let Some((before, after)) = rest.split_once("/*") {
+        text.push_str(before);
+        rest = after.split_once("*/").expect("a comment ends").1;
+    }
+    text.push_str(rest);
+    let kept = text.lines().filter(|line| !line.trim_start().starts_with('#'));
+    let mut text = kept.collect::<Vec<_>>().join("\n");
+    while let Some(at) = text.find("enum {") {
+        let end = at + text[at..].find(';').expect("an enum ends") + 1;
+        text.replace_range(at..end, "");
+    }
+    text
+}
+
+fn read_functions(text: &str, declared: &mut Declared) {
+    // what C++ needs around the declarations
+    let text = text.replace("extern \"C\" {", "");
+    for function in text.split(';').map(one_line).filter(|function| function.contains('(')) {
+        let open = function.find('(').expect("it has a bracket");
+        let (name, result) = name_and_type(&function[..open]);
+        let list = inside(&function[open..], '(', ')');
+        let parameters = super::parts(list).into_iter().map(name_and_type).collect();
+        let before = declared.functions.insert(name.clone(), (parameters, result));
+        assert!(before.is_none(), "{name} is declared twice");
+    }
+}
+
+/// A declared `TYPE name`, as a name and a type of Rust.
+fn name_and_type(text: &str) -> (String, String) {
+    let at = text.rfind([' ', '*']).unwrap_or_else(|| panic!("{text:?} has no name")) + 1;
+    let (kind, name) = text.split_at(at);
+    let name = OTHER_WORDS.iter().find(|(c, _)| *c == name).map_or(name, |(_, rust)| rust);
+    (name.to_string(), type_of(kind.trim()))
+}
+
+fn type_of(kind: &str) -> String {
+    if let Some(element) = kind.strip_suffix('*') {
+        let element = element.trim();
+        return match element.strip_prefix("const ") {
+            Some(element) => format!("*const {}", type_of(element)),
+            None => format!("*mut {}", type_of(element)),
+        };
+    }
+    let name = match kind {
+        "uint8_t" => "u8",
+        "uint16_t" => "u16",
+        "uint32_t" => "u32",
+        "uint64_t" => "u64",
+        "size_t" => "usize",
+        "bool" => "bool",
+        "void" => "()",
+        other => return struct_name(other).unwrap_or_else(|| panic!("{other:?} is no known type")),
+    };
+    name.to_string()
+}
+
+/// `rosadenca_lent_ran` is `LentRan`.
+fn struct_name(name: &str) -> Option<String> {
+    let words = name.strip_prefix("rosadenca_")?.split('_');
+    Some(words.map(|word| word[..1].to_uppercase() + &word[1..]).collect())
+}
