@@ -125,13 +125,13 @@ module _ (m i : List ℕ) (d : Drive) (t : List Record) (n p : ℕ) where
       )
 
   -- at place p, r after its step
-  pub pick-accepted : (r : Record) (m′ i′ : List ℕ) → pickNumber m i d t n p ≡ 0 → r ≡ stepped (getD t p noRecord)
+  pub pick-accepted : (k : ℕ) (r : Record) (m′ i′ : List ℕ) → k ≡ pickNumber m i d t n p → k ≡ 0 → r ≡ stepped (getD t p noRecord)
       → m′ ≡ step d (getD t p noRecord) (stateOf m i t .store) .memory → i′ ≡ step d (getD t p noRecord) (stateOf m i t .store) .image
-      → PickGives m i d t n p (record { number = 0; table = set t p r }) m′ i′
+      → PickGives m i d t n p (record { number = k; table = set t p r }) m′ i′
   unfolding PickGives
-  pick-accepted r m′ i′ e er em ei =
-      let done : picked d n p (stateOf m i t) ≡ stepAt d p (stateOf m i t) = stop _ _ _ (eq-eqb _ _ e) in (
-        ap (λ (x : Record). pickedOf 0 (set t p x)) er ∙ sym (ap₂ (λ (x : ℕ) (s : State). pickedOf x (s .table)) e done),
+  pick-accepted k r m′ i′ e none er em ei =
+      let done : picked d n p (stateOf m i t) ≡ stepAt d p (stateOf m i t) = stop _ _ _ (eq-eqb _ _ (sym e ∙ none)) in (
+        ap (λ (x : Record). pickedOf k (set t p x)) er ∙ ap₂ (λ (x : ℕ) (s : State). pickedOf x (s .table)) e (sym done),
         em ∙ sym (ap (λ (s : State). s .store .memory) done),
         ei ∙ sym (ap (λ (s : State). s .store .image) done),
       )

@@ -100,6 +100,26 @@ fn place_number(table: [Record; 32], commands: usize, place: usize) -> u8
     0
 }
 
+// The number of a pick: 01's rows in their order.
+fn pick_number(
+    memory: &[u8],
+    image: &[u8],
+    d: Drive,
+    table: [Record; 32],
+    commands: usize,
+    place: usize,
+) -> u8
+    ensures { λ n. ⌜ n ≡ pick.pickNumber (now (memory .entry)) (now (image .entry)) d table commands place ⌝ }
+{
+    if sizes::sizes_wrong(memory, image, d) {
+        return 1;
+    }
+    if spoiled(memory, d, table, commands) {
+        return 9;
+    }
+    place_number(table, commands, place)
+}
+
 // A pick: its number, and on 0 one step at its place; on any other number nothing is changed.
 pub fn pick(
     memory: &mut [u8],
@@ -111,22 +131,15 @@ pub fn pick(
 ) -> Picked
     ensures { λ r. ⌜ pick.PickGives (now (memory .entry)) (now (image .entry)) d table commands place r (now (memory .exit)) (now (image .exit)) ⌝ }
 {
-    if sizes::sizes_wrong(memory, image, d) {
-        return Picked { number: 1, table };
-    }
-    if spoiled(memory, d, table, commands) {
-        return Picked { number: 9, table };
-    }
-    let number = place_number(table, commands, place);
-    if number != 0 {
-        return Picked { number, table };
-    }
-    let r = table[place];
-    step::take_step(memory, image, d, r);
+    let number = pick_number(memory, image, d, table, commands, place);
     let mut after = table;
-    after[place] = step::stepped(r);
+    if number == 0 {
+        let r = table[place];
+        step::take_step(memory, image, d, r);
+        after[place] = step::stepped(r);
+    }
     Picked {
-        number: 0,
+        number,
         table: after,
     }
 }
