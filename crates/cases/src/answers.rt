@@ -151,10 +151,32 @@ pub fn looked(out: &mut [u8; BUFFER], number: u8, part: &[u8], s: State) -> Stat
     end_line(out, at, s)
 }
 
-// A call by the lent form, which is not played here: the state stays as it is.
-pub fn skipped(out: &mut [u8; BUFFER], s: State) -> State
+// What the walk over a lent table gave; the state is the one after it.
+pub fn lent_walked(
+    memory: &[u8],
+    image: &[u8],
+    out: &mut [u8; BUFFER],
+    number: u8,
+    s: State,
+) -> State
     ensures { λ r. ⌜ r ≡ outAt s (r .out) ⌝ }
 {
-    let at = print::put_text(out, s.out, b"skipped");
-    end_line(out, at, s)
+    let at = print::put_text(out, s.out, b"lentwalk");
+    let at = put_two(out, at, number as u64, s.commands as u64);
+    end_with_digests(memory, image, out, at, s)
+}
+
+// What a pick over a lent table gave; the state is the one after it.
+pub fn lent_picked(
+    memory: &[u8],
+    image: &[u8],
+    out: &mut [u8; BUFFER],
+    number: u8,
+    s: State,
+) -> State
+    ensures { λ r. ⌜ r ≡ outAt s (r .out) ⌝ }
+{
+    let at = print::put_text(out, s.out, b"lentpick");
+    let at = print::put_number(out, at, number as u64);
+    end_with_digests(memory, image, out, at, s)
 }

@@ -10,6 +10,7 @@ pub mod Takes
 pub mod Layings
 pub mod Tabled
 pub mod Parameters
+pub mod Keeping
 pub mod Looked
 pub mod Agree
 pub mod OneReply

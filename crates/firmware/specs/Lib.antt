@@ -1,5 +1,6 @@
 pub mod Lent
 pub mod Laid
 pub mod Looked
+pub mod Kept
 pub mod Agree
 pub mod OneReply

@@ -1,6 +1,7 @@
 // The lines that call the board. Each hands the case's values to one public function, has what that gives printed, and answers
 // the state after it; a line outside the format answers a state that is stopped.
 use crate::fields;
+use crate::lent;
 use cases::answers;
 use cases::setting;
 use cases::state;
@@ -165,7 +166,8 @@ fn call_one(
         words::LOOK => look(image, out, value, s),
         words::FIELDS => show_fields(memory, out, value, s),
         words::VIEW => view(memory, out, value, s),
-        words::LENTWALK | words::LENTPICK => answers::skipped(out, s),
+        words::LENTWALK => lent::walk(memory, image, out, value, s),
+        words::LENTPICK => lent::pick(memory, image, out, value, s),
         _ => state::stopped(s),
     }
 }

@@ -3,6 +3,7 @@
 // says which it was.
 mod calls;
 mod fields;
+mod lent;
 mod lines;
 
 use calls::MOST_DECK;

@@ -24,10 +24,9 @@ use types.Run.{look, look-raw, store, store-raw, init, forget, stop, hop, fld, f
 use types.Part.{whole, sub, look-in}
 use sound.WpLaws.{fmOf, WpFn-mono}
 use denote.RattleType.{RattleType, owns}
-use denote.Laws.{Is, Lawful, shows}
+use denote.Laws.{Is, shows}
 use denote.Lend.{Held}
 use denote.Memory.{pointee}
-use denote.Array.{array-lawful}
 use denote.Plain.{uint-makes, uint-vals, uint-tells}
 use denote.Builtin.{usize}
 use denote.Index.{row, place-is, elem-out, elem-back, elem-put, opens-slice, closes-slice}
@@ -51,7 +50,7 @@ use Rattle.meaning.proofs.Record as Rec
 use Rattle.meaning.proofs.Record.Laws as Rec′
 use Rattle.firmware.specs.Laid.{laid, noRecords}
 use Rattle.firmware.proofs.Arrays as array
-use Rattle.firmware.proofs.Arrays.{R, T, records-ty, mach}
+use Rattle.firmware.proofs.Arrays.{R, Records, mach}
 use Rattle.firmware.proofs.Moves.{Turn, nearer, nearer-wf, next, past, before, all-laid, place-before, on-the-way, next-fits, bytes-fit}
 use Rattle.firmware.proofs.laid.blank as blank
 use Rattle.firmware.proofs.laid.blank.Symbol as blank-def
@@ -62,6 +61,13 @@ use Rattle.firmware.proofs.laid.load as f
 use Rattle.firmware.proofs.laid.load.Statement as stated
 use Rattle.firmware.proofs.laid.load.Code as code
 use Rattle.firmware.proofs.laid.load.Code.Mir as body
+
+-- the type of a table by value
+abbrev T : RattleType
+T = Records 32
+
+abbrev records-ty : Ty
+records-ty = array.records-ty 32
 
 abbrev word : Ty
 word = tyInt w64
@@ -98,9 +104,6 @@ module _ {M : Type 1} (𝓤 : URA M) (H : Heap 𝓤) (A : Atoms 𝓤) (W : Given
 
   abbrev Post : Val → SProp 𝓤
   Post = walkOf 𝓤 H A f.ended stayed (f.clauses 𝓤 H A mem run) .post (((κ, tt), (q, tt), tt, a, vals), tt)
-
-  table-lawful : Lawful 𝓤 H A T
-  table-lawful = array-lawful 𝓤 H A W R (LL.lawful Rec.the-type Rec′.the-laws 𝓤 H A W) 32
 
   exits : (ys : List Record) → ys ≡ all → ent 𝓤 (⋆ 𝓤 H A (‵ (fobs γ (codedHoleys R .code (heres R xs))) ∷ ‵ (fbor κ (Held R (length xs) b o γ)) ∷ ‵ (flft κ q) ∷ ‵ (T .own ys (mach ys ∷ [])) ∷ [])) (Post (mach ys))
   exits ys e =
@@ -152,9 +155,9 @@ module _ {M : Type 1} (𝓤 : URA M) (H : Heap 𝓤) (A : Atoms 𝓤) (W : Given
         assigns ! (bin ! (load ! (from ! (stop !)) (look ! 2 refl)) (load ! (from ! (stop !)) (look ! 10 refl)) tt) (from ! (stop !)) (init ! 3 refl (tt, tt)) $
         rewrite ! 3 (λ (y : Bool). ‵ (fat fullShare tyBool l₆ 0 (vbool y))) (past (t .k) n (t .ends) e) refl $
         leaves-loop ! (load ! (from ! (stop !)) (look ! 3 refl)) $ exec ! (𝓣 .C) (𝓣 .Λ) E body.t-5 (atRet E Post) $
-        move ! (1 ∷ []) $ use1 W (‵ (fat fullShare records-ty l₃ 0 (mach (t .to))) ⊛ ‵ (T .own (t .to) (mach (t .to) ∷ []))) (array.whole 𝓤 H A W l₃ (t .to) (t .as-long)) $ split ! $
+        move ! (1 ∷ []) $ use1 W (‵ (fat fullShare records-ty l₃ 0 (mach (t .to))) ⊛ ‵ (T .own (t .to) (mach (t .to) ∷ []))) (array.whole 32 𝓤 H A W l₃ (t .to) (t .as-long)) $ split ! $
         move ! (1 ∷ []) $ peeks ! T (Is T) (shows 𝓤 H A T) (t .to) (mach (t .to) ∷ []) (λ is. move ! (1 ∷ 0 ∷ []) $
-        assigns ! (of-opd ! (load ! (from ! (stop !)) (look ! 0 refl))) (from ! (stop !)) (init ! 14 refl (table-lawful .typed (t .to) _ is .0)) $
+        assigns ! (of-opd ! (load ! (from ! (stop !)) (look ! 0 refl))) (from ! (stop !)) (init ! 14 refl (array.lawful 32 𝓤 H A W .typed (t .to) _ is .0)) $
         move ! (2 ∷ 15 ∷ 16 ∷ 17 ∷ []) $ closes-slice ! tt R xs xs refl b o $
         -- [obs; the borrow; the token; _3; what it owns; _4; _6; …; _12; _2; _1; _5; _0; and that each local dies]
         returns ! (look ! 16 refl) $ forget ! 3 refl $ forget ! 5 refl $ forget ! 6 refl $ forget ! 13 refl $ forget ! 14 refl $ forget ! 15 refl $ forget ! 16 refl $
@@ -228,7 +231,7 @@ module _ {M : Type 1} (𝓤 : URA M) (H : Heap 𝓤) (A : Atoms 𝓤) (W : Given
 
     opened : Sq W Before (runs (𝓣 .C) (𝓣 .Λ) E body.t-4 (atRet E Post))
     opened =
-        move ! (19 ∷ 0 ∷ []) $ use2 W (‵ (row R fullShare noRecords l₃ 0)) (array.apart 𝓤 H A W l₃ noRecords bv) $
+        move ! (19 ∷ 0 ∷ []) $ use2 W (‵ (row R fullShare noRecords l₃ 0)) (array.apart 32 𝓤 H A W l₃ noRecords bv) $
         move ! (27 ∷ []) $ fsplit ! $ fsplit ! $ drop ! $ fsplit ! $ move ! (2 ∷ []) $ drop ! $ move ! (28 ∷ []) $ split ! $ move ! (2 ∷ 3 ∷ 0 ∷ []) $ opens-slice ! tt R xs b o $
         -- [the lent records; the open borrow; obs; auth; true; the array; _12; …; _5; …; _4; …; _3 dies; _2; …; _1; …; _0; …]
         keep ! (0 ∷ 5 ∷ 22 ∷ 18 ∷ 16 ∷ 14 ∷ 12 ∷ 10 ∷ 8 ∷ 6 ∷ 25 ∷ 27 ∷ 20 ∷ 29 ∷ 1 ∷ 2 ∷ 3 ∷ 30 ∷ 28 ∷ 26 ∷ 24 ∷ 23 ∷ 21 ∷ 19 ∷ 17 ∷ 15 ∷ 13 ∷ 11 ∷ 9 ∷ 7 ∷ []) $ looped
@@ -242,8 +245,8 @@ module _ {M : Type 1} (𝓤 : URA M) (H : Heap 𝓤) (A : Atoms 𝓤) (W : Given
       calls-at ! (fmOf 𝓤 H (W .laws) 𝓣) (Blank 𝓤 H A mem run) known to-blank (no-more !) (λ v.
       use1 W (later (some (λ (t : List Record). (‵ ftrue ⊛ ‵ (T .own t (v ∷ []))) ⊛ raw (ensured 𝓤 H A blank.ended (blank.clauses 𝓤 H A mem run) tt tt tt t)))) (id⊢ 𝓤 _) $ await ! tt $ pick ! (λ t.
       split ! $ move ! (1 ∷ []) $ use1 W (raw (fact 𝓤 (t ≡ noRecords))) (blank-of 𝓤 H A mem run t) $ heard ! (t ≡ noRecords) (λ e. split ! $ drop ! $ rewrite ! 0 (λ (y : List Record). ‵ (T .own y (v ∷ []))) e refl $
-      peeks ! T (Is T) (shows 𝓤 H A T) noRecords (v ∷ []) (λ is. land ! (from ! (stop !)) (init ! 15 refl (table-lawful .typed noRecords _ is .0)) $
-      assigns ! (of-opd ! (load ! (from ! (stop !)) (look ! 15 refl))) (from ! (stop !)) (init ! 19 refl (table-lawful .typed noRecords _ is .0)) $
+      peeks ! T (Is T) (shows 𝓤 H A T) noRecords (v ∷ []) (λ is. land ! (from ! (stop !)) (init ! 15 refl (array.lawful 32 𝓤 H A W .typed noRecords _ is .0)) $
+      assigns ! (of-opd ! (load ! (from ! (stop !)) (look ! 15 refl))) (from ! (stop !)) (init ! 19 refl (array.lawful 32 𝓤 H A W .typed noRecords _ is .0)) $
       assigns ! (of-opd ! (lit ! tt)) (from ! (stop !)) (init ! 17 refl (tt, record { fits = zero-fits })) $
       opened 𝓣 known v l₀ l₁ l₂ l₃ l₄ l₅ l₆ l₇ l₈ l₉ l₁₀ l₁₁ l₁₂)))))))))))))))))
     where

@@ -26,7 +26,6 @@ use denote.RattleType.{RattleType, owns}
 use denote.Laws.{Is, valss, shows}
 use denote.Lend.{Held}
 use denote.Memory.{pointee}
-use denote.Array.{array-lawful, array-makes}
 use denote.Plain.{uint-makes, uint-vals, uint-tells}
 use denote.Builtin.{usize}
 use denote.Index.{row, place-is, elem-out, elem-back, elem-put, opens-slice, closes-slice}
@@ -54,13 +53,20 @@ use Rattle.firmware.specs.Laid.{laid, Within}
 use Rattle.firmware.proofs.laid.Laid as L
 use Rattle.firmware.proofs.laid.Laid.Laws as L′
 use Rattle.firmware.proofs.Arrays as array
-use Rattle.firmware.proofs.Arrays.{R, T, records-ty, mach}
+use Rattle.firmware.proofs.Arrays.{R, Records, mach}
 use Rattle.firmware.proofs.Moves.{Turn, nearer, nearer-wf, next, past, before, all-laid, place-before, on-the-way, next-fits, bytes-fit}
 use Rattle.firmware.proofs.laid.store.Key.{name as #store}
 use Rattle.firmware.proofs.laid.store as f
 use Rattle.firmware.proofs.laid.store.Statement as stated
 use Rattle.firmware.proofs.laid.store.Code as code
 use Rattle.firmware.proofs.laid.store.Code.Mir as body
+
+-- the type of a table by value
+abbrev T : RattleType
+T = Records 32
+
+abbrev records-ty : Ty
+records-ty = array.records-ty 32
 
 abbrev word : Ty
 word = tyInt w64
@@ -127,7 +133,7 @@ module _ {M : Type 1} (𝓤 : URA M) (H : Heap 𝓤) (A : Atoms 𝓤) (W : Given
   end-fits = let h = within .1 in omega (arith, h)
 
   is-t : Is T (l .table) (tv ∷ [])
-  is-t = array.of-field (l .table) (tv ∷ []) (LL.owed L.the-type L′.the-laws l _ is-l .1 .1 .1 .1 .1 .1 .0)
+  is-t = array.of-field 32 (l .table) (tv ∷ []) (LL.owed L.the-type L′.the-laws l _ is-l .1 .1 .1 .1 .1 .1 .0)
 
   long : length (l .table) ≡ 32
   long = is-t .1 .0 .1
@@ -158,7 +164,7 @@ module _ {M : Type 1} (𝓤 : URA M) (H : Heap 𝓤) (A : Atoms 𝓤) (W : Given
         rewrite ! 3 (λ (y : Bool). ‵ (fat fullShare tyBool l₆ 0 (vbool y))) (past (t .k) end (t .ends) e) refl $
         leaves-loop ! (load ! (from ! (stop !)) (look ! 3 refl)) $ exec ! (𝓣 .C) (𝓣 .Λ) E body.t-5 (atRet E Post) $
         assigns ! (of-opd ! (unit-lit !)) (from ! (stop !)) (init ! 13 refl (tt, tt)) $
-        move ! (1 ∷ []) $ use1 W (‵ (fat fullShare records-ty l₃ 0 (mach (l .table))) ⊛ ‵ (T .own (l .table) (mach (l .table) ∷ []))) (array.whole 𝓤 H A W l₃ (l .table) long) $ split ! $ move ! (1 ∷ []) $ drop ! $
+        move ! (1 ∷ []) $ use1 W (‵ (fat fullShare records-ty l₃ 0 (mach (l .table))) ⊛ ‵ (T .own (l .table) (mach (l .table) ∷ []))) (array.whole 32 𝓤 H A W l₃ (l .table) long) $ split ! $ move ! (1 ∷ []) $ drop ! $
         move ! (1 ∷ 14 ∷ 15 ∷ 16 ∷ []) $ closes-slice ! tt R xs (t .to) (t .as-long) b o $
         -- [obs; the borrow; the token; _3; _4; _6; …; _12; _5; _1; _2; _0; and that each local dies]
         returns ! (look ! 15 refl) $ forget ! 3 refl $ forget ! 4 refl $ forget ! 5 refl $ forget ! 12 refl $ forget ! 13 refl $ forget ! 14 refl $ forget ! 15 refl $
@@ -232,7 +238,7 @@ module _ {M : Type 1} (𝓤 : URA M) (H : Heap 𝓤) (A : Atoms 𝓤) (W : Given
 
     opened : Sq W Before (runs (𝓣 .C) (𝓣 .Λ) E body.t-4 (atRet E Post))
     opened =
-        owned ! T (Is T) (array-makes 𝓤 H A W R (LL.makes Rec.the-type Rec′.the-plain 𝓤 H A) 32) (l .table) (tv ∷ []) is-t $ move ! (19 ∷ 0 ∷ []) $ use2 W (‵ (row R fullShare (l .table) l₃ 0)) (array.apart 𝓤 H A W l₃ (l .table) tv) $
+        owned ! T (Is T) (array.makes 32 𝓤 H A W) (l .table) (tv ∷ []) is-t $ move ! (19 ∷ 0 ∷ []) $ use2 W (‵ (row R fullShare (l .table) l₃ 0)) (array.apart 32 𝓤 H A W l₃ (l .table) tv) $
         move ! (27 ∷ []) $ fsplit ! $ fsplit ! $ drop ! $ fsplit ! $ move ! (2 ∷ []) $ drop ! $ move ! (28 ∷ []) $ split ! $ move ! (2 ∷ 3 ∷ 0 ∷ []) $ opens-slice ! tt R xs b o $
         -- [the lent records; the open borrow; obs; auth; true; the array; _12; …]
         keep ! (0 ∷ 5 ∷ 22 ∷ 18 ∷ 16 ∷ 14 ∷ 12 ∷ 10 ∷ 8 ∷ 6 ∷ 20 ∷ 27 ∷ 25 ∷ 29 ∷ 1 ∷ 2 ∷ 3 ∷ 30 ∷ 28 ∷ 26 ∷ 24 ∷ 23 ∷ 21 ∷ 19 ∷ 17 ∷ 15 ∷ 13 ∷ 11 ∷ 9 ∷ 7 ∷ []) $ looped
@@ -242,7 +248,7 @@ module _ {M : Type 1} (𝓤 : URA M) (H : Heap 𝓤) (A : Atoms 𝓤) (W : Given
       qed W ((‵ (flft κ q) ⊛ ‵ ftrue) ∷ ‵ (owns (MutSlice (named 0) κ R ∷ L.the-row ∷ []) a vals) ∷ []) ∵ enter ! (𝓣 .C) (𝓣 .Λ) code.function (sliceVal (b, o) n ∷ lv ∷ []) _ $
       alloc1 ! (λ l₀. alloc1 ! (λ l₁. alloc1 ! (λ l₂. alloc1 ! (λ l₃. alloc1 ! (λ l₄. alloc1 ! (λ l₅. alloc1 ! (λ l₆. alloc1 ! (λ l₇. alloc1 ! (λ l₈. alloc1 ! (λ l₉. alloc1 ! (λ l₁₀. alloc1 ! (λ l₁₁. alloc1 ! (λ l₁₂. alloc0 ! $ params1 ! $
       pass1 ! (init ! 22 refl (tt, (tt, (record { fits = room .0 }, tt)))) $ pass1 ! (init ! 20 refl (LL.lawful L.the-type L′.the-laws 𝓤 H A W .typed l _ is-l .0)) $ pass0 ! $
-      assigns ! (of-opd ! (load ! (from ! (fld ! refl (stop !))) (look-in ! 20 (sub ! 6 refl (whole !))))) (from ! (stop !)) (init ! 18 refl (array-lawful 𝓤 H A W R (LL.lawful Rec.the-type Rec′.the-laws 𝓤 H A W) 32 .typed (l .table) _ is-t .0)) $
+      assigns ! (of-opd ! (load ! (from ! (fld ! refl (stop !))) (look-in ! 20 (sub ! 6 refl (whole !))))) (from ! (stop !)) (init ! 18 refl (array.lawful 32 𝓤 H A W .typed (l .table) _ is-t .0)) $
       assigns ! (of-opd ! (load ! (from ! (fld ! refl (stop !))) (look-in ! 20 (sub ! 1 refl (whole !))))) (from ! (stop !)) (init ! 16 refl (tt, record { fits = from-fits })) $
       assigns ! (bin ! (load ! (from ! (stop !)) (look ! 16 refl)) (load ! (from ! (fld ! refl (stop !))) (look-in ! 20 (sub ! 2 refl (whole !)))) (record { fits = end-fits })) (from ! (stop !)) (init ! 14 refl (tt, record { fits = end-fits })) $
       opened 𝓣 l₀ l₁ l₂ l₃ l₄ l₅ l₆ l₇ l₈ l₉ l₁₀ l₁₁ l₁₂)))))))))))))
