@@ -2,7 +2,6 @@
 -- rest. So the two give the same. Assumes nothing.
 use mathlib.Core.Path.{_≡_, refl, sym, _∙_, ap}
 use Prim.Native.Nat.{ℕ, zero, suc, _≤_, _<_}
-use native.Mathlib.Omega.{arith}
 use mathlib.Core.Bool.{Bool, true, false}
 use mathlib.Core.List.{List, [], append-nil}
 use lib.ListN.{length, take, drop, set, getD, length-set}
@@ -17,7 +16,7 @@ use Rattle.meaning.specs.Walk.{mostCommands, walkOf}
 use Rattle.meaning.specs.Pick as by-value
 use Rattle.meaning.specs.Pick.{State, stateOf, pickReply}
 use Rattle.meaning.specs.Run as run
-use Rattle.meaning.specs.Run.{picksReply, picksLeave, writtenReply, writtenLeaves}
+use Rattle.meaning.specs.Run.{picksReply, writtenReply}
 use Rattle.meaning.proofs.Rows.{pass, stop}
 use Rattle.firmware.specs.declared.table.LentWalked.{LentWalked}
 use Rattle.firmware.specs.declared.table.LentRan.{LentRan}

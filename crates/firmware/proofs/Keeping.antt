@@ -1,15 +1,14 @@
 -- A table of 40 records is its front, which is lent, and the rest. Assumes nothing.
-use mathlib.Core.Path.{_≡_, _∙_, sym, ap}
+use mathlib.Core.Path.{_≡_}
 use Prim.Native.Nat.{ℕ, min}
 use native.Mathlib.Omega.{arith}
 use mathlib.Core.List.{List, _++_}
-use lib.ListN.{length, take, drop, length-append, length-drop}
+use lib.ListN.{length, length-append, length-drop}
 use lib.Seq.{length-take-le}
 use Rattle.meaning.specs.declared.Drive.{Drive}
 use Rattle.meaning.specs.declared.Record.{Record}
-use Rattle.meaning.specs.Pick.{stateOf}
 use Rattle.firmware.specs.declared.table.LentWalked.{LentWalked}
-use Rattle.firmware.specs.Lent.{WalkGives, PickGives, lentTaken, byPick}
+use Rattle.firmware.specs.Lent.{WalkGives, PickGives}
 use Rattle.firmware.specs.Kept.{walkedOf, pickedOf, front, rest, KeptWalkGives, KeptPickGives}
 
 module _ (n : ℕ) (ts : List Record) where

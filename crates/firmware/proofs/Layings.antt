@@ -1,12 +1,12 @@
 -- A pick changes the record at its place alone, and a run some of the 32; a refusal by any of them changes nothing. Assumes nothing.
 use mathlib.Core.Path.{_≡_, refl, sym, _∙_, ap}
-use Prim.Native.Nat.{ℕ, _+_, _≤_, _<_}
+use Prim.Native.Nat.{ℕ, _+_, _<_}
 use native.Mathlib.Omega.{arith}
 use mathlib.Core.Bool.{false}
 use mathlib.Core.List.{List, _++_}
 use lib.ListN.{length, take, drop, set, getD, length-append, length-set, take-append-drop}
 use lib.Dec.{eqb}
-use lib.Seq.{set-append-left, getD-set-same, take-at, drop-at, take-all}
+use lib.Seq.{set-append-left, getD-set-same, drop-at, take-all}
 use borrow.Author.Tests.{eq-eqb, ne-eqb}
 use Rattle.meaning.specs.declared.Drive.{Drive}
 use Rattle.meaning.specs.declared.Record.{Record}
@@ -14,7 +14,7 @@ use Rattle.meaning.specs.Command.{noRecord}
 use Rattle.meaning.specs.Walk.{mostCommands}
 use Rattle.meaning.specs.Step.{stepped}
 use Rattle.meaning.specs.Pick.{State, pickNumber, picked, stepAt}
-use Rattle.meaning.specs.Run.{Tally, Written, atStart, runNumber, picksLeave, picksReply, written, writtenLeaves, writtenReply}
+use Rattle.meaning.specs.Run.{Tally, atStart, runNumber, picksLeave, picksReply, written, writtenLeaves, writtenReply}
 use Rattle.meaning.specs.Run as run
 use Rattle.meaning.proofs.Rows.{pass, stop}
 use Rattle.order.proofs.Numbers.{pick-passed, place-free}
@@ -22,7 +22,7 @@ use Rattle.order.proofs.Picks.{picks-keep}
 use Rattle.order.proofs.Steps.{length-written}
 use Rattle.board.proofs.Spoiling.{few}
 use Rattle.firmware.specs.Laid.{laid}
-use Rattle.firmware.specs.Lent.{Taken, byPick, byPicks, asWritten}
+use Rattle.firmware.specs.Lent.{byPick, byPicks, asWritten}
 use Rattle.firmware.proofs.Fronts.{laid-front}
 use Rattle.firmware.proofs.Takes.{Layable}
 

@@ -11,6 +11,7 @@ pub mod Layings
 pub mod Tabled
 pub mod Parameters
 pub mod Keeping
+pub mod Fronted
 pub mod Looked
 pub mod Agree
 pub mod OneReply

@@ -1,7 +1,6 @@
 -- The last parameters that the calls over a lent table have, a number and a lent list of bytes, and what they answer. Assumes nothing.
 use mathlib.Core.Path.{refl}
 use mathlib.Core.List.{[], _∷_}
-use Prim.Native.Nat.{ℕ}
 use lib.ListN.{length}
 use contract.Lifetimes.{Lfts}
 use mir.Syntax.{Ty, named, imm, w8, w64, tyInt, tyRef}

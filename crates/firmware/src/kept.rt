@@ -16,7 +16,7 @@ pub struct Kept {
 }
 
 // How many of 40 records a length can mean.
-fn within(length: usize) -> usize
+pub(crate) fn within(length: usize) -> usize
     ensures { λ n. ⌜ n ≡ min length 40 ⌝ }
 {
     if length < 40 { length } else { 40 }

@@ -52,11 +52,3 @@ pub fn put_digest(out: &mut [u8; BUFFER], at: usize, h: u64) -> usize
     let next = put_byte(out, at, b' ');
     put_text(out, next, &digits[..k])
 }
-
-// What is left in the buffer goes out.
-pub fn flush(out: &[u8; BUFFER], at: usize) {
-    let all: &[u8] = out;
-    if at <= all.len() {
-        io::write_all(STDOUT_FILENO, &all[0..at]);
-    }
-}

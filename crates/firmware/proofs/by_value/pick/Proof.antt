@@ -4,7 +4,6 @@ use mathlib.Core.Bool.{false}
 use borrow.Author.Needs.{needs}
 use Rattle.meaning.specs.declared.Picked.{Picked}
 use Rattle.meaning.specs.Pick.{PickGives, pickReply}
-use Rattle.firmware.specs.declared.laid.Laid.{Laid}
 use Rattle.firmware.specs.Lent.{byPick}
 use Rattle.firmware.proofs.ByValue.{short, refused, accepted}
 use Rattle.firmware.proofs.by_value.pick.Statement.{statement}

@@ -3,7 +3,6 @@ use mathlib.Core.Path.{_∙_, sym, ap}
 use borrow.Author.Needs.{needs}
 use Rattle.meaning.specs.declared.RanPicks.{RanPicks}
 use Rattle.meaning.specs.Run.{PicksGive, picksReply}
-use Rattle.firmware.specs.declared.laid.Laid.{Laid}
 use Rattle.firmware.specs.Lent.{byPicks}
 use Rattle.firmware.proofs.ByValue.{short, refused, accepted}
 use Rattle.firmware.proofs.by_value.run_picks.Statement.{statement}

@@ -3,7 +3,6 @@ use mathlib.Core.Path.{_∙_, sym, ap}
 use borrow.Author.Needs.{needs}
 use Rattle.meaning.specs.declared.RanWritten.{RanWritten}
 use Rattle.meaning.specs.Run.{WrittenGives, writtenReply}
-use Rattle.firmware.specs.declared.laid.Laid.{Laid}
 use Rattle.firmware.specs.Lent.{asWritten}
 use Rattle.firmware.proofs.ByValue.{short, refused, accepted}
 use Rattle.firmware.proofs.by_value.run_written.Statement.{statement}

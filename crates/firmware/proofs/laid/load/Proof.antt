@@ -1,7 +1,7 @@
 -- `firmware::laid::load` meets its contract: a walk of its MIR, by hand, with its loop. Each turn reads one record of the lent table and
 -- writes it at the same place of a local array, which stands apart, record by record, while the loop runs. All that it knows of `blank`
 -- is that it meets its contract. Assumes nothing.
-use mathlib.Core.Path.{_≡_, refl, sym, ap, subst}
+use mathlib.Core.Path.{_≡_, refl, sym}
 use Prim.Native.Nat.{ℕ, zero, suc, _*_, _+_, _≤_, _<_, _^_}
 use native.Mathlib.Omega.{arith}
 use mathlib.Core.Bool.{Bool}
