@@ -1,3 +1,15 @@
+-- Laws about the definitions of specs/, each beside what it is about, below all crates that use them. First tests and lists; then spaces
+-- and moves, ranges, records and steps; then what each test means in words, what the number 0 tells, and what an accepted walk gives.
 pub mod Rows
 pub mod Loops
-pub mod Moves
+pub mod All
+pub mod Tests
+pub mod Overwrite
+pub mod Spaces
+pub mod Means
+pub mod Table
+pub mod Conditions
+pub mod Records
+pub mod Numbers
+pub mod Still
+pub mod Walks

@@ -1,5 +1,5 @@
 -- What a loop through a list asks of `someOf`, `everyOf` and `sumOf`: at place k, and past the last place. Each is stated of the
--- first n of a list, which is how a table holds its commands; `l` itself is its first `length l`. Assumes nothing.
+-- first n of a list, which is how a table holds its commands; `l` itself is its first `length l`.
 use mathlib.Core.Path.{_≡_, ap, _∙_}
 use Prim.Native.Nat.{ℕ, zero, suc, _+_, _≤_, _<_}
 use native.Mathlib.Nat.{not-suc-le-zero, le-of-suc-le-suc}

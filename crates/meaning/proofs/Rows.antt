@@ -1,5 +1,5 @@
 -- What a reply says of the rows of a table: where the number is 0, a row that gives another did not apply.
--- Also tests joined by "and" and "or", taken apart and put together. Assumes nothing.
+-- Also tests joined by "and" and "or", taken apart and put together.
 use mathlib.Core.Path.{_≡_, refl}
 use Prim.Native.Nat.{ℕ, suc}
 use native.Mathlib.Omega.{arith}

@@ -1,11 +1,14 @@
--- What comes of a deck: document 01, "The bench program". "The chain starts at 0 and runs as written." Assumes nothing.
+-- What comes of a deck: the chain starts at 0 and runs as written.
 use Prim.Native.Nat.{ℕ}
 use mathlib.Core.Bool.{cond}
 use mathlib.Core.List.{List, map}
-use lib.ListN.{length}
+use lib.ListN.{length, replicate}
 use Rattle.meaning.specs.declared.Drive.{Drive}
+use Rattle.meaning.specs.declared.Record.{Record}
+use Rattle.meaning.specs.Store.{Store}
+use Rattle.meaning.specs.State.{State, mostCommands, stateOf}
 use Rattle.meaning.specs.Walk.{Chain, refused, accepted, chainAt}
-use Rattle.meaning.specs.Step.{Store}
+use Rattle.meaning.specs.Command.{noRecord}
 use Rattle.meaning.specs.Run.{written, chainSteps}
 use Rattle.meaning.specs.Deck.{isDeck, benchDrive, benchMemory, benchImage}
 
@@ -17,8 +20,12 @@ pub data Outcome : Type 0 where
   -- the codes of the commands, and the steps
   ran : List ℕ → ℕ → Outcome
 
-abbrev pub benchStore : List ℕ → Store
-benchStore b = record { memory = benchMemory b; image = benchImage }
+-- a table that holds no command yet
+abbrev pub noRecords : List Record
+noRecords = replicate mostCommands noRecord
+
+abbrev pub benchState : List ℕ → State
+benchState b = stateOf (benchMemory b) benchImage noRecords
 
 -- an accepted chain, run as written to its end
 unfoldable pub runChain : Drive → Store → Chain → Outcome
@@ -29,5 +36,5 @@ runChain d s (accepted rs) = ran (map (λ r. r .code) rs) (written d (chainSteps
 unfoldable pub outcomeOf : List ℕ → Outcome
 unfolding runChain isDeck chainAt benchMemory benchImage benchDrive
 outcomeOf b =
-    let o = runChain (benchDrive b) (benchStore b) (chainAt (benchMemory b) benchImage (benchDrive b) 0) in
+    let o = runChain (benchDrive b) (benchState b .store) (chainAt (benchDrive b) 0 (benchState b)) in
     cond (isDeck b) o noDeck

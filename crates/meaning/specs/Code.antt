@@ -1,11 +1,11 @@
--- "The code each command will get. Fixed at the walk, from the copied bytes." Document 01, under that heading.
--- Assumes nothing.
+-- The code that each command will get: fixed at the walk, from the copied bytes.
 use Prim.Native.Nat.{ℕ, _+_, _*_, _%_}
 use mathlib.Core.Bool.{Bool, not, _&&_, _||_}
 use mathlib.Core.List.{List, [], _∷_}
 use lib.Dec.{ltb, eqb}
 use Rattle.meaning.specs.First.{Row, firstOf, _↝_}
 use Rattle.meaning.specs.declared.Drive.{Drive}
+use Rattle.meaning.specs.Store.{theUnit}
 use Rattle.meaning.specs.Sectors.{sectorBytes, sectorCount, sectorNumber}
 use Rattle.meaning.specs.Fields as iopb
 use Rattle.meaning.specs.declared.Copied.{Copied}
@@ -35,7 +35,7 @@ write = 1
 abbrev pub read : ℕ
 read = 2
 
--- bits of a copied byte 0: "bit 5 CHEN, bit 4 SGM, bits 3-0 command"
+-- bits of a copied byte 0: bit 5 is CHEN, bit 4 SGM, bits 3-0 the command
 abbrev pub commandIn : ℕ → ℕ
 commandIn byte0 = byte0 % 16
 
@@ -52,31 +52,35 @@ odd a = eqb (a % 2) 1
 abbrev pub firstSector : Drive → Copied → ℕ
 firstSector d c = sectorNumber d (c .cylinder) (c .head) (c .sector)
 
--- 01's table, row by row; n is the length of memory
-abbrev pub codeRows : Copied → Drive → ℕ → List Row
-codeRows c d n =
-    -- "CHEN set and next address odd (next alignment error)"
+-- What every command is asked, row by row. A No Operation that comes this far has nothing more to be asked.
+abbrev pub commandRows : Copied → List Row
+commandRows c =
+    -- CHEN set and the next address odd: next alignment error
     (chained c && odd (c .next)) ↝ 0x1E
-    -- "command above 2, or SGM set, or byte 4 not zero"
+    -- a command above 2, or SGM set, or byte 4 not zero
     ∷ (ltb read (commandIn (c .byte0)) || gathers c || not (eqb (c .subfunction) 0)) ↝ 0x14
-    -- "a No Operation that passed the two above"
     ∷ eqb (commandIn (c .byte0)) nop ↝ 0x00
-    -- "unit not 0 (drive not ready)"
-    ∷ not (eqb (c .unit) 0) ↝ 0x42
-    -- "count zero"
+    ∷ []
+
+-- What only a transfer is asked, row by row; n is the length of memory.
+abbrev pub transferRows : Copied → Drive → ℕ → List Row
+transferRows c d n =
+    -- a unit that is not there: drive not ready
+    not (eqb (c .unit) theUnit) ↝ 0x42
+    -- no sector is asked for
     ∷ eqb (c .count) 0 ↝ 0x13
-    -- "cylinder, then head, then sector above its maximum"
+    -- cylinder, then head, then sector above its maximum
     ∷ ltb (d .cylinder) (c .cylinder) ↝ 0x10
     ∷ ltb (d .head) (c .head) ↝ 0x11
     ∷ ltb (d .sector) (c .sector) ↝ 0x12
-    -- "first sector number + count is more than the drive has"
+    -- the sectors go past the end of the drive
     ∷ ltb (sectorCount d) (firstSector d c + c .count) ↝ 0x10
-    -- "Write Data and the drive is protected"
+    -- a Write Data on a protected drive
     ∷ (eqb (commandIn (c .byte0)) write && d .protected) ↝ 0x90
-    -- "data address + 512 x count is past the end of memory (bus error)"
+    -- the data goes past the end of memory: bus error
     ∷ ltb n (c .address + sectorBytes * c .count) ↝ 0x4B
     ∷ []
 
--- "The first that applies wins"; "00 otherwise"
+-- the first that applies wins; 00 otherwise
 unfoldable pub codeOf : Copied → Drive → ℕ → ℕ
-codeOf c d n = firstOf (codeRows c d n) 0x00
+codeOf c d n = firstOf (commandRows c) (firstOf (transferRows c d n) 0x00)

@@ -1,5 +1,4 @@
--- What a record says of its command: its kind, its steps, whether it is finished. Document 01, the first sentences of
--- "Steps, and when a command waits". Assumes nothing.
+-- What a record says of its command: its kind, its steps, whether it is finished.
 use Prim.Native.Nat.{ℕ, _-_}
 use mathlib.Core.Bool.{Bool, _&&_, _||_, cond}
 use lib.Dec.{leb, eqb}
@@ -18,7 +17,7 @@ writes r = eqb (r .code) 0 && eqb (commandIn (r .byte0)) write
 abbrev pub transfers : Record → Bool
 transfers r = reads r || writes r
 
--- "A transfer with code 00 has as many steps as its count; every other command has one."
+-- a transfer with code 00 has as many steps as its count; every other command has one
 unfoldable pub stepsOf : Record → ℕ
 stepsOf r = cond (transfers r) (r .count) 1
 

@@ -1,4 +1,4 @@
--- A deck: document 01, "The bench program", its first paragraph. b is the bytes of a deck. Assumes nothing.
+-- A deck: document 01, "The bench program", its first paragraph. b is the bytes of a deck.
 use Prim.Native.Nat.{ℕ, _+_, _*_, _/_, _%_}
 use mathlib.Core.Bool.{Bool, not, _&&_, cond}
 use mathlib.Core.List.{List, [], _++_, foldl}

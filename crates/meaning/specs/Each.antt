@@ -1,7 +1,7 @@
 -- A test put to each element of a list: `someOf` where one passes, `everyOf` where all do; the sum of a number of each; and
 -- the numbers below a number, to go through places by.
 -- mathlib's `any` and `all` are shut outside their own module, and these have to compute.
--- Assumes nothing.
+--
 use Prim.Native.Nat.{ℕ, zero, suc, _+_}
 use mathlib.Core.Bool.{Bool, true, false, _&&_, _||_}
 use mathlib.Core.List.{List, [], _∷_, _++_}

@@ -1,6 +1,6 @@
 -- The thirty bytes of an IOPB: document 01, the table under that heading. m is memory and a the IOPB's address.
 -- "Any viewer whose thirty bytes are not all in its memory gives 0 for every field": so does every field here.
--- Assumes nothing.
+--
 use Prim.Native.Nat.{ℕ, _+_, _*_, _/_, _%_, _^_}
 use mathlib.Core.Bool.{Bool, cond}
 use mathlib.Core.List.{List}

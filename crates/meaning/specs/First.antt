@@ -1,6 +1,6 @@
 -- A table of document 01 whose rows are tried in its order: the first row that applies gives the number.
 -- Every number and every code of 01 is stated by such a table, so that the order is there to be read.
--- Assumes nothing.
+--
 use Prim.Native.Nat.{ℕ}
 use mathlib.Core.Bool.{Bool, cond}
 use mathlib.Core.List.{List, [], _∷_}

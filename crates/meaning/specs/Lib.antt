@@ -1,10 +1,14 @@
--- Document 01 as definitions, in its order. First how its tables are read, then what the board is, an IOPB, the walk, the codes,
--- steps and when a command waits, picks and runs, the bench; and the starred examples, proved.
+-- The rules of the board as definitions. First how its tables of numbers are read, where bytes are, and what a drive is; an IOPB and a
+-- viewer over it; the walk and the codes; steps and when a command waits; picks and runs; the bench; and the starred examples, proved.
 pub mod First
 pub mod Each
+pub mod Store
 pub mod Sectors
 pub mod Look
 pub mod Fields
+pub mod View
+pub mod Ranges
+pub mod State
 pub mod Sizes
 pub mod Code
 pub mod Walk
@@ -13,6 +17,8 @@ pub mod Touch
 pub mod Step
 pub mod Pick
 pub mod Run
+pub mod Table
+pub mod Conditions
 pub mod Deck
 pub mod Bench
 pub mod Lines

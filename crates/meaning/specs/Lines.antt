@@ -1,4 +1,4 @@
--- The lines that the bench prints, as bytes: document 01, "The bench program". Assumes nothing.
+-- The lines that the bench prints, as bytes: document 01, "The bench program".
 use Prim.Native.Nat.{ℕ, zero, suc, _+_, _/_, _%_}
 use mathlib.Core.Bool.{cond}
 use mathlib.Core.List.{List, [], _∷_, _++_}

@@ -1,23 +1,32 @@
--- To look at a sector: document 01, the last paragraph of "Steps, and when a command waits". Assumes nothing.
-use Prim.Native.Nat.{ℕ, _*_}
+-- To look at a sector: its number, and the part of the image that it is.
+use Prim.Native.Nat.{ℕ}
 use mathlib.Core.Bool.{not, cond}
 use mathlib.Core.List.{List, [], _∷_}
-use lib.ListN.{length, take, drop}
+use lib.ListN.{length}
 use lib.Dec.{ltb, eqb}
 use Rattle.meaning.specs.First.{firstOf, _↝_}
 use Rattle.meaning.specs.declared.Drive.{Drive}
-use Rattle.meaning.specs.Sectors.{sectorBytes, largestSector, imageRight}
+use Rattle.meaning.specs.declared.Part.{Part}
+use Rattle.meaning.specs.Store.{Store, theUnit, theDisk, get}
+use Rattle.meaning.specs.Sectors.{largestSector, onDisk, imageRight}
 
--- "1 if the image is over its limit or not the drive's size, then 10 if there is no such sector, otherwise 0"
-unfoldable pub lookNumber : List ℕ → Drive → ℕ → ℕ
-lookNumber image d s =
+-- 1 for an image over its limit or not of the drive's size, then 10 where there is no such sector, otherwise 0
+unfoldable pub lookNumber : Drive → ℕ → Store → ℕ
+lookNumber d n s =
     firstOf
-    (not (imageRight d (length image)) ↝ 1
-    ∷ ltb (largestSector d) s ↝ 10
+    (not (imageRight d (length (s theDisk))) ↝ 1
+    ∷ ltb (largestSector d) n ↝ 10
     ∷ [])
     0
 
--- "that sector's 512 bytes of the image itself, or an empty part exactly where its number is not 0"
-unfoldable pub lookPart : List ℕ → Drive → ℕ → List ℕ
+-- the sector's own bytes, or none exactly where the number is not 0
+unfoldable pub lookPart : Drive → ℕ → Store → List ℕ
+unfolding lookNumber get
+lookPart d n s = cond (eqb (lookNumber d n s) 0) (get (onDisk theUnit n) s) []
+
+-- the same part, named by where it begins in the image and by its length
+unfoldable pub lookedPart : Drive → ℕ → Store → Part
 unfolding lookNumber
-lookPart image d s = cond (eqb (lookNumber image d s) 0) (take sectorBytes (drop (sectorBytes * s) image)) []
+lookedPart d n s =
+    let x = onDisk theUnit n in
+    cond (eqb (lookNumber d n s) 0) (record { at = x .from; length = x .many }) (record { at = 0; length = 0 })

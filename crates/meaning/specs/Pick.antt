@@ -1,5 +1,5 @@
--- A pick: document 01, the table of pick numbers. A pick names a place in the table and takes one step there.
--- m is memory, i the image, t the table and n the number of commands. Assumes nothing.
+-- A pick names a place in the table and takes one step there: its number, and what it leaves.
+-- d is the drive, n the number of commands, p the place, and s the state: table, memory and image.
 use mathlib.Core.Path.{_≡_}
 use Prim.Native.Nat.{ℕ, _+_, _*_}
 use mathlib.Core.Bool.{Bool, not, _&&_, _||_, cond}
@@ -9,44 +9,44 @@ use lib.Dec.{ltb, leb, eqb}
 use Rattle.meaning.specs.First.{Row, firstOf, _↝_}
 use Rattle.meaning.specs.Each.{someOf}
 use Rattle.meaning.specs.declared.Drive.{Drive}
+use Rattle.meaning.specs.Store.{memory, Store}
+use Rattle.meaning.specs.State.{State, mostCommands}
 use Rattle.meaning.specs.Sectors.{sectorBytes, sectorCount}
 use Rattle.meaning.specs.Fields.{allIn}
 use Rattle.meaning.specs.declared.Record.{Record}
 use Rattle.meaning.specs.Sizes.{sizesWrong}
-use Rattle.meaning.specs.Walk.{mostCommands}
-use Rattle.meaning.specs.declared.Picked.{Picked}
 use Rattle.meaning.specs.Command.{writes, transfers, stepsOf, finished, noRecord}
 use Rattle.meaning.specs.Touch.{conflict}
-use Rattle.meaning.specs.Step.{Store, step, stepped}
+use Rattle.meaning.specs.Step.{step, stepped}
 
--- "a code 00 transfer with count zero, with data or sectors outside memory or drive, or writing to a protected drive"
-unfoldable pub badTransfer : List ℕ → Drive → Record → Bool
-badTransfer m d r =
+-- a code 00 transfer with count zero, with data or sectors outside memory or drive, or writing to a protected drive
+unfoldable pub badTransfer : Drive → Store → Record → Bool
+badTransfer d s r =
     eqb (r .count) 0
-    || ltb (length m) (r .address + sectorBytes * r .count)
+    || ltb (length (s memory)) (r .address + sectorBytes * r .count)
     || ltb (sectorCount d) (r .sector + r .count)
     || writes r && d .protected
 
--- "a record in use has its IOPB not all in memory, or steps taken above its steps; or it is" such a transfer
-unfoldable pub badRecord : List ℕ → Drive → Record → Bool
+-- a record whose IOPB is not all in memory, or with more steps taken than it has, or that is such a transfer
+unfoldable pub badRecord : Drive → Store → Record → Bool
 unfolding badTransfer stepsOf
-badRecord m d r = not (allIn m (r .iopb)) || ltb (stepsOf r) (r .taken) || transfers r && badTransfer m d r
+badRecord d s r = not (allIn (s memory) (r .iopb)) || ltb (stepsOf r) (r .taken) || transfers r && badTransfer d s r
 
--- "the table has over 32 commands; or a record in use" is bad
-unfoldable pub spoiled : List ℕ → Drive → List Record → ℕ → Bool
+-- the table has over 32 commands, or a record in use is bad
+unfoldable pub spoiled : Drive → ℕ → State → Bool
 unfolding badRecord
-spoiled m d t n = ltb mostCommands n || someOf (badRecord m d) (take n t)
+spoiled d n s = ltb mostCommands n || someOf (badRecord d (s .store)) (take n (s .table))
 
--- "an earlier unfinished command conflicts with it"
+-- an earlier unfinished command conflicts with the one at p
 unfoldable pub waits : List Record → ℕ → Bool
 unfolding finished conflict
 waits t p = someOf (λ e. not (finished e) && conflict e (getD t p noRecord)) (take p t)
 
--- "Given exactly when (in this order)": the rows that both runs test first, and the rows after them
-abbrev pub runRows : List ℕ → List ℕ → Drive → List Record → ℕ → List Row
-runRows m i d t n =
-    sizesWrong m i d ↝ 1
-    ∷ spoiled m d t n ↝ 9
+-- the rows that both runs test too, and the rows after them, each in its order
+abbrev pub runRows : Drive → ℕ → State → List Row
+runRows d n s =
+    sizesWrong d s ↝ 1
+    ∷ spoiled d n s ↝ 9
     ∷ []
 
 abbrev pub placeRows : List Record → ℕ → ℕ → List Row
@@ -60,41 +60,23 @@ unfoldable pub placeNumber : List Record → ℕ → ℕ → ℕ
 unfolding finished waits
 placeNumber t n p = firstOf (placeRows t n p) 0
 
-unfoldable pub pickNumber : List ℕ → List ℕ → Drive → List Record → ℕ → ℕ → ℕ
-unfolding spoiled placeNumber
-pickNumber m i d t n p = firstOf (runRows m i d t n) (placeNumber t n p)
+unfoldable pub pickNumber : Drive → ℕ → ℕ → State → ℕ
+unfolding sizesWrong spoiled placeNumber
+pickNumber d n p s = firstOf (runRows d n s) (placeNumber (s .table) n p)
 
--- a table with memory and image: what a step changes
-pub record State : Type 0 where
-  pub table : List Record
-  pub store : Store
-
--- one step at place p: "one step taken"
+-- one step at place p
 unfoldable pub stepAt : Drive → ℕ → State → State
 unfolding step stepped
 stepAt d p s =
     let r = getD (s .table) p noRecord in
     record { table = set (s .table) p (stepped r); store = step d r (s .store) }
 
--- what a pick leaves: "nothing changed" but on 0
+-- what a pick leaves: nothing changed but on 0
 unfoldable pub picked : Drive → ℕ → ℕ → State → State
 unfolding pickNumber stepAt
-picked d n p s = cond (eqb (pickNumber (s .store .memory) (s .store .image) d (s .table) n p) 0) (stepAt d p s) s
+picked d n p s = cond (eqb (pickNumber d n p s) 0) (stepAt d p s) s
 
--- what a pick replies
-unfoldable pub pickReply : Drive → ℕ → ℕ → State → Picked
-unfolding picked
-pickReply d n p s =
-    record { number = pickNumber (s .store .memory) (s .store .image) d (s .table) n p; table = picked d n p s .table }
-
--- memory, image and table, put together
-abbrev pub stateOf : List ℕ → List ℕ → List Record → State
-stateOf m i t = record { table = t; store = record { memory = m; image = i } }
-
--- The whole of a pick: r is what it replies, m′ and i′ are memory and image after it.
-unfoldable pub PickGives : List ℕ → List ℕ → Drive → List Record → ℕ → ℕ → Picked → List ℕ → List ℕ → Type 0
-unfolding pickReply
-PickGives m i d t n p r m′ i′ =
-    (r ≡ pickReply d n p (stateOf m i t))
-    × (m′ ≡ picked d n p (stateOf m i t) .store .memory)
-    × (i′ ≡ picked d n p (stateOf m i t) .store .image)
+-- The whole of a pick: k is its number, s′ the state after it.
+unfoldable pub PickGives : Drive → ℕ → ℕ → State → ℕ → State → Type 0
+unfolding pickNumber picked
+PickGives d n p s k s′ = (k ≡ pickNumber d n p s) × (s′ ≡ picked d n p s)

@@ -1,4 +1,4 @@
--- The two runs: document 01, the paragraph that begins "A run takes a lent list of picks". Assumes nothing.
+-- The two runs, by a list of picks and as written, and the whole of either. Both test 1 and 9 first.
 use mathlib.Core.Path.{_≡_}
 use Prim.Native.Nat.{ℕ, zero, suc, _+_, _-_, min}
 use mathlib.Core.Bool.{Bool, false, cond}
@@ -9,80 +9,65 @@ use Rattle.meaning.specs.First.{firstOf}
 use Rattle.meaning.specs.Each.{everyOf, sumOf}
 use Rattle.meaning.specs.declared.Drive.{Drive}
 use Rattle.meaning.specs.declared.Record.{Record}
-use Rattle.meaning.specs.declared.RanPicks.{RanPicks}
-use Rattle.meaning.specs.declared.RanWritten.{RanWritten}
+use Rattle.meaning.specs.declared.Ran.{Ran}
+use Rattle.meaning.specs.Store.{Store}
+use Rattle.meaning.specs.State.{State}
+use Rattle.meaning.specs.Sizes.{sizesWrong}
 use Rattle.meaning.specs.Command.{stepsOf, finished, remaining}
-use Rattle.meaning.specs.Step.{Store, step, stepped}
-use Rattle.meaning.specs.Pick.{State, stateOf, runRows, pickNumber, stepAt}
+use Rattle.meaning.specs.Step.{step, stepped}
+use Rattle.meaning.specs.Pick.{spoiled, runRows, pickNumber, stepAt}
 
--- "A chain's steps, from its start, are the sum of the steps of its commands."
+-- a chain's steps, from its start: the sum of the steps of its commands
 unfoldable pub chainSteps : List Record → ℕ → ℕ
 unfolding stepsOf
 chainSteps t n = sumOf stepsOf (take n t)
 
--- "whether all commands are finished"
+-- the steps that remain of the first n commands
+unfoldable pub stepsLeft : List Record → ℕ → ℕ
+unfolding remaining
+stepsLeft t n = sumOf remaining (take n t)
+
+-- all commands are finished
 unfoldable pub allFinished : List Record → ℕ → Bool
 unfolding finished
 allFinished t n = everyOf finished (take n t)
 
--- "Both runs test 1 and 9 first"; "otherwise they give 0"
-unfoldable pub runNumber : List ℕ → List ℕ → Drive → List Record → ℕ → ℕ
-runNumber m i d t n = firstOf (runRows m i d t n) 0
+-- 1 and 9, which both runs test first; otherwise 0
+unfoldable pub runNumber : Drive → ℕ → State → ℕ
+unfolding sizesWrong spoiled
+runNumber d n s = firstOf (runRows d n s) 0
 
--- ---- by picks
-
--- what a run by picks has come to
+-- what a run has come to
 pub record Tally : Type 0 where
   pub steps : ℕ
   pub refused : ℕ
   pub state : State
 
--- One pick of a run. "A refused pick is passed over", and counted: "the picks refused" are those that got a number other than 0
-unfoldable pub onePick : Drive → ℕ → ℕ → Tally → Tally
-unfolding pickNumber stepAt
-onePick d n p y =
-    cond (eqb (pickNumber (y .state .store .memory) (y .state .store .image) d (y .state .table) n p) 0)
-    (record { steps = y .steps + 1; refused = y .refused; state = stepAt d p (y .state) })
-    (record { steps = y .steps; refused = y .refused + 1; state = y .state })
-
-unfoldable pub byPicks : Drive → ℕ → List ℕ → Tally → Tally
-unfolding onePick
-byPicks d n [] y = y
-byPicks d n (p ∷ ps) y = byPicks d n ps (onePick d n p y)
-
 abbrev pub atStart : State → Tally
 atStart s = record { steps = 0; refused = 0; state = s }
 
--- what is left: 1 and 9 "change nothing"
-unfoldable pub picksLeave : List ℕ → List ℕ → Drive → List Record → ℕ → List ℕ → Tally
-unfolding runNumber byPicks
-picksLeave m i d t n ps =
-    cond (eqb (runNumber m i d t n) 0) (byPicks d n ps (atStart (stateOf m i t))) (atStart (stateOf m i t))
+-- ---- by picks
 
--- "they then give that number, zero counts and «not finished»"
-unfoldable pub picksReply : List ℕ → List ℕ → Drive → List Record → ℕ → List ℕ → RanPicks
-unfolding picksLeave allFinished
-picksReply m i d t n ps =
-    let y = picksLeave m i d t n ps in
-    record {
-      number = runNumber m i d t n;
-      steps = y .steps;
-      refused = y .refused;
-      finished = cond (eqb (runNumber m i d t n) 0) (allFinished (y .state .table) n) false;
-      table = y .state .table;
-    }
+-- one pick of a run: where it is refused it is passed over, and counted
+unfoldable pub onePick : Drive → ℕ → ℕ → Tally → Tally
+unfolding pickNumber stepAt
+onePick d n p y =
+    cond (eqb (pickNumber d n p (y .state)) 0)
+    (record { steps = y .steps + 1; refused = y .refused; state = stepAt d p (y .state) })
+    (record { steps = y .steps; refused = y .refused + 1; state = y .state })
 
--- The whole of a run by picks: r is what it reports, m′ and i′ are memory and image after it.
-unfoldable pub PicksGive : List ℕ → List ℕ → Drive → List Record → ℕ → List ℕ → RanPicks → List ℕ → List ℕ → Type 0
-unfolding picksReply
-PicksGive m i d t n ps r m′ i′ =
-    (r ≡ picksReply m i d t n ps)
-    × (m′ ≡ picksLeave m i d t n ps .state .store .memory)
-    × (i′ ≡ picksLeave m i d t n ps .state .store .image)
+unfoldable pub picksFrom : Drive → ℕ → List ℕ → Tally → Tally
+unfolding onePick
+picksFrom d n [] y = y
+picksFrom d n (p ∷ ps) y = picksFrom d n ps (onePick d n p y)
+
+unfoldable pub byPicks : Drive → ℕ → List ℕ → State → Tally
+unfolding picksFrom
+byPicks d n ps s = picksFrom d n ps (atStart s)
 
 -- ---- as written
 
--- k steps of one command, one after another: its record, and memory and image
+-- k steps of one command, one after another: its record, and the store
 unfoldable pub advanced : ℕ → Record → Record
 unfolding stepped
 advanced zero r = r
@@ -93,47 +78,51 @@ unfolding step stepped
 stepsDone d zero r s = s
 stepsDone d (suc k) r s = stepsDone d k (stepped r) (step d r s)
 
--- what a run as written has come to
-pub record Written : Type 0 where
-  pub steps : ℕ
-  pub table : List Record
-  pub store : Store
-
--- "takes steps as written (always the earliest unfinished command), within a step budget": of each command in turn as many
--- steps as are left of it, or of the budget b
-unfoldable pub written : Drive → ℕ → List Record → Store → Written
+-- of each command in turn as many steps as are left of it, or of the budget b: always the earliest unfinished command
+unfoldable pub written : Drive → ℕ → List Record → Store → Tally
 unfolding remaining advanced stepsDone
-written d b [] s = record { steps = 0; table = []; store = s }
+written d b [] s = atStart (record { table = []; store = s })
 written d b (r ∷ rs) s =
     let k = min b (remaining r) in
     let rest = written d (b - k) rs (stepsDone d k r s) in
-    record { steps = k + rest .steps; table = advanced k r ∷ rest .table; store = rest .store }
-
--- what is left: 1 and 9 "change nothing"; records past the last command are left alone
-unfoldable pub writtenLeaves : List ℕ → List ℕ → Drive → List Record → ℕ → ℕ → Written
-unfolding runNumber written
-writtenLeaves m i d t n b =
-    let s = stateOf m i t .store in
-    let w = written d b (take n t) s in
-    cond (eqb (runNumber m i d t n) 0)
-    (record { steps = w .steps; table = w .table ++ drop n t; store = w .store })
-    (record { steps = 0; table = t; store = s })
-
-unfoldable pub writtenReply : List ℕ → List ℕ → Drive → List Record → ℕ → ℕ → RanWritten
-unfolding writtenLeaves allFinished
-writtenReply m i d t n b =
-    let w = writtenLeaves m i d t n b in
     record {
-      number = runNumber m i d t n;
-      steps = w .steps;
-      finished = cond (eqb (runNumber m i d t n) 0) (allFinished (w .table) n) false;
-      table = w .table;
+      steps = k + rest .steps;
+      refused = rest .refused;
+      state = record { table = advanced k r ∷ rest .state .table; store = rest .state .store };
     }
 
--- The whole of a run as written: r is what it reports, m′ and i′ are memory and image after it.
-unfoldable pub WrittenGives : List ℕ → List ℕ → Drive → List Record → ℕ → ℕ → RanWritten → List ℕ → List ℕ → Type 0
-unfolding writtenReply
-WrittenGives m i d t n b r m′ i′ =
-    (r ≡ writtenReply m i d t n b)
-    × (m′ ≡ writtenLeaves m i d t n b .store .memory)
-    × (i′ ≡ writtenLeaves m i d t n b .store .image)
+-- the same of the first n records of a table; those past them are left alone
+unfoldable pub asWritten : Drive → ℕ → ℕ → State → Tally
+unfolding written
+asWritten d n b s =
+    let w = written d b (take n (s .table)) (s .store) in
+    record {
+      steps = w .steps;
+      refused = w .refused;
+      state = record { table = w .state .table ++ drop n (s .table); store = w .state .store };
+    }
+
+-- ---- the whole of a run
+
+-- what a run comes to that would come to `go s`: on 1 and 9 nothing is done
+unfoldable pub ranTo : Drive → ℕ → (State → Tally) → State → Tally
+unfolding runNumber
+ranTo d n go s = cond (eqb (runNumber d n s) 0) (go s) (atStart s)
+
+-- what it answers: on 1 and 9 that number, zero counts and "not finished"
+unfoldable pub runReply : Drive → ℕ → (State → Tally) → State → Ran
+unfolding ranTo allFinished
+runReply d n go s =
+    let y = ranTo d n go s in
+    record {
+      steps = y .steps;
+      refused = y .refused;
+      number = runNumber d n s;
+      finished = cond (eqb (runNumber d n s) 0) (allFinished (y .state .table) n) false;
+    }
+
+-- The whole of a run: r is what it answers, s′ the state after it. `go` is `byPicks d n ps` for a run by picks, `asWritten d n b` for a
+-- run as written with the budget b.
+unfoldable pub RunGives : Drive → ℕ → (State → Tally) → State → Ran → State → Type 0
+unfolding runReply
+RunGives d n go s r s′ = (r ≡ runReply d n go s) × (s′ ≡ ranTo d n go s .state)

@@ -1,19 +1,20 @@
--- What a drive is: document 01, "What the board is". Sectors, their numbers, and the size of an image.
--- A `Drive` holds zero-based maxima; what is counted here are numbers of things. Assumes nothing.
+-- What a drive is: its sectors, their numbers and their places on the disk, and the size of an image.
+-- A `Drive` holds zero-based maxima; what is counted here are numbers of things.
 use Prim.Native.Nat.{ℕ, _+_, _-_, _*_}
 use mathlib.Core.Bool.{Bool, _&&_}
 use lib.Dec.{leb, eqb}
 use Rattle.meaning.specs.declared.Drive.{Drive}
+use Rattle.meaning.specs.Store.{disk, Area, area}
 
--- "a lent run of 512-byte sectors"
+-- the bytes of a sector
 abbrev pub sectorBytes : ℕ
 sectorBytes = 512
 
--- "at most 16,777,216 bytes"
+-- the most bytes of an image
 abbrev pub imageLimit : ℕ
 imageLimit = 16_777_216
 
--- "heads and sectors per track are the maxima plus one"; a count is one more than the maximum
+-- a count is one more than the maximum, since a maximum is counted from zero
 abbrev pub countOf : ℕ → ℕ
 countOf maximum = maximum + 1
 
@@ -31,10 +32,14 @@ sectorCount d = countOf (d .cylinder) * heads d * perTrack d
 unfoldable pub largestSector : Drive → ℕ
 largestSector d = sectorCount d - 1
 
--- "cylinder x heads x sectors per track + head x sectors per track + sector"
+-- a sector's number: whole cylinders before it, whole tracks before it on its cylinder, and sectors before it on its track
 unfoldable pub sectorNumber : Drive → ℕ → ℕ → ℕ → ℕ
 sectorNumber d cylinder head sector = cylinder * heads d * perTrack d + head * perTrack d + sector
 
--- "The image must be exactly 512 bytes for each sector of the drive", and within its limit; n is its length
+-- sector n of a unit lies on its disk from byte 512 n on: nothing else says where a sector is
+abbrev pub onDisk : ℕ → ℕ → Area
+onDisk u n = area (disk u) (sectorBytes * n) sectorBytes
+
+-- an image of n bytes is within its limit, and has exactly the bytes of the drive's sectors
 unfoldable pub imageRight : Drive → ℕ → Bool
 imageRight d n = leb n imageLimit && eqb n (sectorBytes * sectorCount d)

@@ -1,16 +1,22 @@
--- Number 1 of every table of document 01: sizes that are wrong. m is memory, i the image. Assumes nothing.
+-- Number 1 of every call: sizes that are wrong.
 use Prim.Native.Nat.{ℕ}
 use mathlib.Core.Bool.{Bool, not, _||_}
-use mathlib.Core.List.{List}
 use lib.ListN.{length}
 use lib.Dec.{ltb}
 use Rattle.meaning.specs.declared.Drive.{Drive}
+use Rattle.meaning.specs.Store.{memory, Store, theDisk}
+use Rattle.meaning.specs.State.{State, mostCommands}
 use Rattle.meaning.specs.Sectors.{imageRight}
 
--- "Host memory is a lent run of 0 to 65,536 bytes."
+-- the most bytes of host memory
 abbrev pub memoryLimit : ℕ
 memoryLimit = 65_536
 
--- "memory over 65,536, image over its limit or not the drive's size"; a table by value is never shorter than 32
-unfoldable pub sizesWrong : List ℕ → List ℕ → Drive → Bool
-sizesWrong m i d = ltb memoryLimit (length m) || not (imageRight d (length i))
+-- memory over its limit, or an image over its limit or not of the drive's size
+unfoldable pub storeWrong : Drive → Store → Bool
+storeWrong d s = ltb memoryLimit (length (s memory)) || not (imageRight d (length (s theDisk)))
+
+-- or a table shorter than 32, which only a lent one can be
+unfoldable pub sizesWrong : Drive → State → Bool
+unfolding storeWrong
+sizesWrong d s = storeWrong d (s .store) || ltb (length (s .table)) mostCommands

@@ -1,18 +1,21 @@
--- The starred examples of document 01, "On both sides of each line": twelve rows of one table under one statement,
--- `starred-rows`, which holds by computing the definitions. "The drive and memory of the bench." Assumes nothing.
+-- The starred examples: lines on both sides of each rule, with the drive and memory of the bench, as rows of one table under one
+-- statement, `starred-rows`, which holds by computing the definitions.
 use mathlib.Core.Path.{_≡_, refl}
 use Prim.Native.Nat.{ℕ}
 use mathlib.Core.List.{List, [], _∷_, _++_, map}
 use lib.ListN.{length, getD, set, replicate}
 use Rattle.meaning.specs.Sectors.{sectorCount, sectorNumber, imageRight}
 use Rattle.meaning.specs.Fields.{byteOf}
-use Rattle.meaning.specs.Sizes.{sizesWrong}
+use Rattle.meaning.specs.Ranges.{crosses}
+use Rattle.meaning.specs.State.{stateOf}
+use Rattle.meaning.specs.Sizes.{storeWrong, sizesWrong}
 use Rattle.meaning.specs.Code.{copiedAt, codeOf}
-use Rattle.meaning.specs.Walk.{Chain, refused, accepted, recordOf, follow, chainAt}
+use Rattle.meaning.specs.Walk.{Chain, refused, accepted, recordOf, follow, chainAt, filled}
 use Rattle.meaning.specs.Command.{stepsOf, finished, noRecord}
-use Rattle.meaning.specs.Touch.{overlap, touched, disturbs, conflict}
+use Rattle.meaning.specs.Touch.{touched, disturbs, conflict}
 use Rattle.meaning.specs.Pick.{badTransfer, badRecord, spoiled, waits, placeNumber, pickNumber}
 use Rattle.meaning.specs.Deck.{benchDrive, layRecord, benchMemory, sectorsTo, benchImage}
+use Rattle.meaning.specs.Bench.{noRecords, benchState}
 
 -- "positions and bytes in hex": byte `at` of a record is `is`
 pub record Byte : Type 0 where
@@ -40,7 +43,7 @@ exampleDeck =
 
 -- the chain that a deck lays in the bench's memory
 abbrev pub chainOf : List ℕ → Chain
-chainOf b = chainAt (benchMemory b) benchImage (benchDrive b) 0
+chainOf b = chainAt (benchDrive b) 0 (benchState b)
 
 -- the code of the only command of a deck of one record; 255 where there is none
 abbrev pub codeIn : Chain → ℕ
@@ -50,7 +53,8 @@ codeIn (accepted rs) = getD rs 0 noRecord .code
 -- the number of a first pick at place p on a deck's chain
 abbrev pub pickIn : List ℕ → ℕ → Chain → ℕ
 pickIn b p (refused n) = 255
-pickIn b p (accepted rs) = pickNumber (benchMemory b) benchImage (benchDrive b) rs (length rs) p
+pickIn b p (accepted rs) =
+    pickNumber (benchDrive b) (length rs) p (stateOf (benchMemory b) benchImage (filled (accepted rs) noRecords))
 
 -- what a row of the table asks
 pub data Asks : Type 0 where
@@ -59,12 +63,12 @@ pub data Asks : Type 0 where
   -- the number of a first pick at this place of the deck above
   firstPick : ℕ → Asks
 
-pub record Row : Type 0 where
+pub record Example : Type 0 where
   pub asks : Asks
   pub gives : ℕ
 
 infix 69 _⇒_
-abbrev pub _⇒_ : Asks → ℕ → Row
+abbrev pub _⇒_ : Asks → ℕ → Example
 a ⇒ n = record { asks = a; gives = n }
 
 abbrev pub answer : Asks → ℕ
@@ -72,7 +76,7 @@ answer (codeOfCommand vs) = codeIn (chainOf (deckRecord vs))
 answer (firstPick p) = pickIn exampleDeck p (chainOf exampleDeck)
 
 -- a Read Data of 01's rows: count at byte 9, cylinder at B, head at C, sector at D, address at 12 and 13
-abbrev pub rows : List Row
+abbrev pub rows : List Example
 rows =
     -- "cylinder 1, head 1, sector 7, count 1, address 400H: 00", "Count 2: 10H"
     codeOfCommand (0 ≔ 2 ∷ 9 ≔ 1 ∷ 0xB ≔ 1 ∷ 0xC ≔ 1 ∷ 0xD ≔ 7 ∷ 0x12 ≔ 0x04 ∷ []) ⇒ 0x00
@@ -94,6 +98,6 @@ rows =
     ∷ firstPick 2 ⇒ 0
     ∷ []
 
-pub starred-rows : map (λ (r : Row). answer (r .asks)) rows ≡ map (λ (r : Row). r .gives) rows
-unfolding byteOf copiedAt codeOf recordOf follow chainAt sizesWrong imageRight sectorCount sectorNumber benchMemory layRecord benchImage sectorsTo benchDrive pickNumber spoiled badRecord badTransfer placeNumber waits conflict touched disturbs overlap stepsOf finished
+pub starred-rows : map (λ (r : Example). answer (r .asks)) rows ≡ map (λ (r : Example). r .gives) rows
+unfolding byteOf copiedAt codeOf recordOf follow chainAt storeWrong sizesWrong imageRight sectorCount sectorNumber benchMemory layRecord benchImage sectorsTo benchDrive pickNumber spoiled badRecord badTransfer placeNumber waits conflict touched disturbs crosses stepsOf finished
 starred-rows = refl

@@ -1,5 +1,5 @@
-// What document 01 means: the types that its rules speak of, here, and the rules themselves as definitions, in specs/.
-// Nothing here runs. The crates above prove their code equal to these definitions.
+// What the rules of the board speak of: the types, here, and the rules themselves as definitions, in specs/ (docs/RULES.md says them in
+// words). Nothing here runs. The crates above prove their code equal to these definitions.
 
 // The largest number of a kind, counted from zero.
 pub struct Maximum(pub u32);
@@ -51,32 +51,65 @@ pub struct Record {
     pub code: u8,
 }
 
-// What the walk gives: its number, how many commands there are (0 on a refusal), and the table.
+// What the walk answers: its number, and how many commands there are (0 on a refusal).
+#[repr(C)]
 pub struct Walked {
     pub number: u8,
     pub commands: usize,
-    pub table: [Record; 32],
 }
 
-// What a pick gives: its number, and the table with one step more at its place, or as it was.
-pub struct Picked {
-    pub number: u8,
-    pub table: [Record; 32],
-}
-
-// What a run by picks reports: its number, steps taken, picks refused, whether all commands are finished, and the table.
-pub struct RanPicks {
-    pub number: u8,
-    pub steps: usize,
-    pub refused: usize,
-    pub finished: bool,
-    pub table: [Record; 32],
-}
-
-// What a run as written reports: its number, steps taken, whether all commands are finished, and the table.
-pub struct RanWritten {
-    pub number: u8,
+// What a run answers: steps taken, picks refused (none in a run as written), its number, and whether all commands are finished.
+#[repr(C)]
+pub struct Ran {
     pub steps: u64,
+    pub refused: u64,
+    pub number: u8,
     pub finished: bool,
+}
+
+// The same answers, and a pick's number, with the table that goes in and comes back by value.
+pub struct WalkedTable {
+    pub walked: Walked,
     pub table: [Record; 32],
+}
+
+pub struct PickedTable {
+    pub number: u8,
+    pub table: [Record; 32],
+}
+
+pub struct RanTable {
+    pub ran: Ran,
+    pub table: [Record; 32],
+}
+
+// A part of the image, named by where it begins and by its length: what a look gives a program that cannot be handed the part itself.
+#[repr(C)]
+pub struct Part {
+    pub at: usize,
+    pub length: usize,
+}
+
+// One IOPB as a viewer shows it: the number of the viewer's making, and every field, each 0 where that number is not.
+#[repr(C)]
+pub struct Iopb {
+    pub data_address: u32,
+    pub next_address: u32,
+    pub count: u16,
+    pub cylinder: u16,
+    pub number: u8,
+    pub errs: u8,
+    pub done: u8,
+    pub chen: u8,
+    pub sgm: u8,
+    pub command: u8,
+    pub completion: u8,
+    pub wrpt: u8,
+    pub oncl: u8,
+    pub drdy: u8,
+    pub internal: u8,
+    pub subfunction: u8,
+    pub unit: u8,
+    pub head: u8,
+    pub sector: u8,
 }

@@ -1,6 +1,5 @@
 -- A test and the proposition that it tests: `Means P b` says that b is true where P holds and false where it fails. One law for
 -- each way that a test is put together, so that a condition of document 01 is read off from its test part by part.
--- Assumes nothing.
 use mathlib.Core.Path.{_≡_, refl, sym, _∙_}
 use mathlib.Core.Logic.{_↔_, _≢_, _⊎_, inl, inr}
 use Prim.Native.Nat.{ℕ, zero, suc, _≤_, _<_, suc-le-suc}

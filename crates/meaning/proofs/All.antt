@@ -1,5 +1,4 @@
 -- A fact of each element of a list, as a product that computes.
--- Assumes nothing.
 use mathlib.Core.List.{List, [], _∷_, _++_}
 
 module _ {A : Type 0} where
@@ -14,3 +13,12 @@ module _ {A : Type 0} where
   pub all-map : (P Q : A → Type 0) → ((x : A) → P x → Q x) → (xs : List A) → All P xs → All Q xs
   all-map P Q f [] h = tt
   all-map P Q f (x ∷ xs) h = (f x (h .0), all-map P Q f xs (h .1))
+
+  -- x is one of a list
+  pub data Among (x : A) : List A → Type 0 where
+    here : {xs : List A} → Among x (x ∷ xs)
+    there : {y : A} {xs : List A} → Among x xs → Among x (y ∷ xs)
+
+  pub all-at : (P : A → Type 0) {x : A} {xs : List A} → All P xs → Among x xs → P x
+  all-at P h here = h .0
+  all-at P h (there a) = all-at P (h .1) a

@@ -1,6 +1,5 @@
 -- Overwriting by `sets`, at places that lie apart: two overwritings commute, and reading is not changed by one.
 -- Neither asks for anything to lie in the list. By induction on what is written, from the laws of `set`.
--- Assumes nothing.
 use mathlib.Core.Path.{_≡_, refl, sym, ap, _∙_}
 use Prim.Native.Nat.{ℕ, suc, _+_, _-_, _≤_, min, max}
 use native.Mathlib.Nat.{add-sub-of-le}

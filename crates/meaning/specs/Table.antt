@@ -1,5 +1,5 @@
 -- How a table of document 01 is read: "Given exactly when (in this order)". A case says in words, as a proposition, when its
--- number is given; `Given` says when the table gives a number. Assumes nothing.
+-- number is given; `Given` says when the table gives a number.
 use mathlib.Core.Path.{_≡_}
 use Prim.Native.Nat.{ℕ, zero, suc}
 use mathlib.Core.Bool.{cond}

@@ -1,14 +1,14 @@
 -- The one law of every table of document 01: what `firstOf` gives, the table in words says. `Says` sets a table's tests beside its
--- cases; its last case is what is given otherwise. Assumes nothing.
+-- cases; its last case is what is given otherwise.
 use mathlib.Core.Path.{_≡_, sym, _∙_}
 use mathlib.Core.Logic.{_↔_, _≢_}
 use Prim.Native.Nat.{ℕ, zero, suc}
 use mathlib.Core.Bool.{Bool, true, false, not, _&&_, cond}
 use mathlib.Core.List.{List, [], _∷_}
 use lib.Dec.{T, when, eqb}
 use Rattle.meaning.specs.First.{Row, firstOf, _↝_}
-use Rattle.promises.specs.Table.{Case, _⇒_, Otherwise, Given, NoneOf, FirstAt, GivesAt}
-use Rattle.promises.proofs.Means.{Means, holds, fails, means-eq}
+use Rattle.meaning.specs.Table.{Case, _⇒_, Otherwise, Given, NoneOf, FirstAt, GivesAt}
+use Rattle.meaning.proofs.Means.{Means, holds, fails, means-eq}
 
 infixr 67 _&_
 pub data Says (last : ℕ) : List Row → List Case → Type 1 where

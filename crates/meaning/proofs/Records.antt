@@ -1,17 +1,17 @@
 -- What a step makes of a command's record: one step less remains, and nothing else that the rules look at changes.
--- Assumes nothing.
 use mathlib.Core.Path.{_≡_, refl}
 use Prim.Native.Nat.{ℕ, suc, _+_, _<_}
 use native.Mathlib.Omega.{arith}
 use mathlib.Core.Bool.{true, false}
 use mathlib.Core.List.{List}
 use borrow.Author.Tests.{leb-true, leb-false, le-leb, lt-leb, le-ltb}
 use Rattle.meaning.specs.declared.Drive.{Drive}
 use Rattle.meaning.specs.declared.Record.{Record}
 use Rattle.meaning.specs.Command.{stepsOf, finished, remaining}
 use Rattle.meaning.specs.Touch.{touched, conflict}
+use Rattle.meaning.specs.Store.{Store}
 use Rattle.meaning.specs.Step.{stepped}
 use Rattle.meaning.specs.Pick.{badTransfer, badRecord}
 
 -- ---- finished is: no step remains
 
@@ -41,7 +41,7 @@ pub conflict-stepped : (r q : Record) → conflict (stepped r) q ≡ conflict r 
 unfolding conflict touched stepped
 conflict-stepped r q = refl
 
-pub bad-stepped : (m : List ℕ) (d : Drive) (r : Record) → finished r ≡ false → badRecord m d (stepped r) ≡ badRecord m d r
+pub bad-stepped : (d : Drive) (s : Store) (r : Record) → finished r ≡ false → badRecord d s (stepped r) ≡ badRecord d s r
 unfolding badRecord badTransfer stepped finished stepsOf
-bad-stepped m d r e =
+bad-stepped d s r e =
     rw (le-ltb (stepsOf r) (r .taken + 1) (omega (arith, leb-false)), le-ltb (stepsOf r) (r .taken) (omega (arith, leb-false)))

@@ -1,12 +1,11 @@
 -- What a test that is built from others tells of them, and tests of the elements of a list.
--- Assumes nothing.
 use mathlib.Core.Path.{_≡_, refl, ap}
 use Prim.Native.Nat.{ℕ, zero, suc}
 use mathlib.Core.Bool.{Bool, true, false, not, _&&_, _||_, false≢true}
 use mathlib.Core.List.{List, [], _∷_}
 use lib.ListN.{getD, set, take}
 use Rattle.meaning.specs.Each.{someOf, everyOf}
 use Rattle.meaning.proofs.Rows.{and-true}
 
 pub and-false : (a b : Bool) → (a && b) ≡ false → a ≡ true → b ≡ false
 and-false true b e h = e
@@ -15,6 +14,10 @@ and-false false b e h = absurd (false≢true h)
 pub and-no : (a : Bool) → (a && false) ≡ false
 and-no true = refl
 and-no false = refl
+
+pub or-no : (a : Bool) → (a || false) ≡ a
+or-no true = refl
+or-no false = refl
 
 -- where every element passes f, none fails it
 pub every-none : {A : Type 0} (f g : A → Bool) (xs : List A) → everyOf f xs ≡ true → someOf (λ x. not (f x) && g x) xs ≡ false

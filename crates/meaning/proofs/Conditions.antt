@@ -1,0 +1,132 @@
+-- Each condition means what its test computes: read off part by part with the laws of `Means`. And a record that number 9 lets pass,
+-- taken apart.
+use mathlib.Core.Path.{_≡_, sym, ap, _∙_}
+use mathlib.Core.Logic.{_⊎_, inl, inr}
+use Prim.Native.Nat.{ℕ, _+_, _*_, _≤_, _<_}
+use native.Mathlib.Nat.{one-le-mul}
+use native.Mathlib.Omega.{arith}
+use mathlib.Core.Bool.{Bool, true, false, not, _||_, or-assoc}
+use lib.ListN.{length}
+use lib.Dec.{ltb, leb, eqb}
+use Rattle.meaning.specs.declared.Drive.{Drive}
+use Rattle.meaning.specs.declared.Record.{Record}
+use Rattle.meaning.specs.Store.{memory, Store, theDisk}
+use Rattle.meaning.specs.State.{State, mostCommands}
+use Rattle.meaning.specs.Sectors.{sectorBytes, imageLimit, sectorCount, imageRight}
+use Rattle.meaning.specs.Fields.{iopbBytes}
+use Rattle.meaning.specs.Sizes.{memoryLimit, storeWrong, sizesWrong}
+use Rattle.meaning.specs.Code.{commandIn, read, write}
+use Rattle.meaning.specs.Command.{reads, writes, transfers, stepsOf, finished, noRecord}
+use Rattle.meaning.specs.Pick.{badTransfer, badRecord, spoiled}
+use Rattle.meaning.specs.Conditions.{ImageWrong, StoreWrong, SizesWrong, Reads, Writes, Finished, BadTransfer, BadRecord, Spoiled}
+use Rattle.meaning.proofs.Means.{Means, holds, fails, when-true, when-false, is-true, means-itself, means-and, means-or, means-or₃, means-not-and, means-above, means-other, means-lt, means-le, means-eq, means-some}
+
+-- ---- sizes
+
+pub means-image : (d : Drive) (s : Store) → Means (ImageWrong d s) (not (imageRight d (length (s theDisk))))
+unfolding imageRight
+means-image d s =
+    let n = length (s theDisk) in
+    means-not-and (leb n imageLimit) (eqb n (sectorBytes * sectorCount d)) (means-above n imageLimit) (means-other n (sectorBytes * sectorCount d))
+
+pub means-store : (d : Drive) (s : Store) → Means (StoreWrong d s) (storeWrong d s)
+unfolding storeWrong
+means-store d s = means-or (means-lt memoryLimit (length (s memory))) (means-image d s)
+
+pub means-sizes : (d : Drive) (s : State) → Means (SizesWrong d s) (sizesWrong d s)
+unfolding sizesWrong
+means-sizes d s = means-or (means-store d (s .store)) (means-lt (length (s .table)) mostCommands)
+
+-- an image that is not wrong has the bytes of its drive's sectors, of which there is one at least
+pub image-size : (d : Drive) (s : Store) → ¬ ImageWrong d s → length (s theDisk) ≡ sectorBytes * sectorCount d
+image-size d s right = go (means-eq (length (s theDisk)) (sectorBytes * sectorCount d))
+  where
+    go : {b : Bool} → Means (length (s theDisk) ≡ sectorBytes * sectorCount d) b → length (s theDisk) ≡ sectorBytes * sectorCount d
+    go (holds e) = e
+    go (fails n) = absurd (right (inr n))
+
+pub some-sector : (d : Drive) → 1 ≤ sectorCount d
+unfolding sectorCount
+some-sector d = one-le-mul (one-le-mul (omega arith) (omega arith)) (omega arith)
+
+-- sizes that are right
+pub record RightStore (d : Drive) (s : Store) : Type 0 where
+  pub memory-fits : length (s memory) ≤ memoryLimit
+  pub image-exact : length (s theDisk) ≡ sectorBytes * sectorCount d
+
+pub right-store : (d : Drive) (s : Store) → storeWrong d s ≡ false → RightStore d s
+right-store d s e =
+    let n = when-false (means-store d s) e in
+    record { memory-fits = go (means-lt memoryLimit (length (s memory))) (λ h. n (inl h)); image-exact = image-size d s (λ w. n (inr w)) }
+  where
+    go : {b : Bool} → Means (memoryLimit < length (s memory)) b → ¬ (memoryLimit < length (s memory)) → length (s memory) ≤ memoryLimit
+    go m h = omega arith
+
+pub record RightSizes (d : Drive) (s : State) : Type 0 where
+  pub store-right : storeWrong d (s .store) ≡ false
+  pub table-long : mostCommands ≤ length (s .table)
+
+-- ---- kinds
+
+pub means-reads : (r : Record) → Means (Reads r) (reads r)
+means-reads r = means-and (means-eq (r .code) 0) (means-eq (commandIn (r .byte0)) read)
+
+pub means-writes : (r : Record) → Means (Writes r) (writes r)
+means-writes r = means-and (means-eq (r .code) 0) (means-eq (commandIn (r .byte0)) write)
+
+pub means-transfers : (r : Record) → Means (Reads r ⊎ Writes r) (transfers r)
+means-transfers r = means-or (means-reads r) (means-writes r)
+
+pub not-both : (r : Record) → Reads r → Writes r → ⊥
+not-both r p q = let z : _≡_ {A = ℕ} 1 2 = cc in omega arith
+
+pub means-finished : (r : Record) → Means (Finished r) (finished r)
+unfolding finished
+means-finished r = means-le (stepsOf r) (r .taken)
+
+-- ---- number 9
+
+pub means-bad-transfer : (d : Drive) (s : Store) (r : Record) → Means (BadTransfer d s r) (badTransfer d s r)
+unfolding badTransfer
+means-bad-transfer d s r =
+    simp or-assoc
+    (means-or (means-eq (r .count) 0)
+    (means-or (means-lt (length (s memory)) (r .address + sectorBytes * r .count))
+    (means-or (means-lt (sectorCount d) (r .sector + r .count))
+    (means-and (means-writes r) (means-itself (d .protected))))))
+
+pub means-bad-record : (d : Drive) (s : Store) (r : Record) → Means (BadRecord d s r) (badRecord d s r)
+unfolding badRecord
+means-bad-record d s r =
+    means-or₃ (means-above (r .iopb + iopbBytes) (length (s memory))) (means-lt (stepsOf r) (r .taken))
+    (means-and (means-transfers r) (means-bad-transfer d s r))
+
+pub means-spoiled : (d : Drive) (n : ℕ) (s : State) → Means (Spoiled d n s) (spoiled d n s)
+unfolding spoiled
+means-spoiled d n s = means-or (means-lt mostCommands n) (means-some (means-bad-record d (s .store)) noRecord n (s .table))
+
+-- a record that is not bad, part by part
+pub record Good (d : Drive) (s : Store) (r : Record) : Type 0 where
+  pub placed : r .iopb + iopbBytes ≤ length (s memory)
+  pub few : r .taken ≤ stepsOf r
+  pub some : transfers r ≡ true → 1 ≤ r .count
+  pub bytes-in : transfers r ≡ true → r .address + sectorBytes * r .count ≤ length (s memory)
+  pub sectors-in : transfers r ≡ true → r .sector + r .count ≤ sectorCount d
+
+pub good : (d : Drive) (s : Store) (r : Record) → badRecord d s r ≡ false → Good d s r
+good d s r e =
+    let n = when-false (means-bad-record d s r) e in
+    let transfer : transfers r ≡ true → ¬ BadTransfer d s r = λ t b. n (inr (inr (when-true (means-transfers r) t, b))) in
+    record {
+      placed = at-most (λ h. n (inl h));
+      few = at-most (λ h. n (inr (inl h)));
+      some = λ t. above (λ z. transfer t (inl z));
+      bytes-in = λ t. at-most (λ h. transfer t (inr (inl h)));
+      sectors-in = λ t. at-most (λ h. transfer t (inr (inr (inl h))));
+    }
+  where
+    at-most : {a b : ℕ} → ¬ (a < b) → b ≤ a
+    at-most h = omega arith
+
+    above : {a : ℕ} → ¬ (a ≡ 0) → 1 ≤ a
+    above h = omega arith

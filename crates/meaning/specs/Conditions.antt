@@ -1,0 +1,89 @@
+-- What the tables of the rules ask of sizes, records and commands, in words: each as a proposition over numbers, bytes and sectors.
+-- The tests of the other files are proved to mean exactly these (proofs/Conditions, proofs/Conflict).
+use mathlib.Core.Path.{_≡_}
+use mathlib.Core.Logic.{_≢_, _⊎_}
+use Prim.Native.Nat.{ℕ, _+_, _*_, _%_, _≤_, _<_}
+use mathlib.Core.Bool.{true}
+use mathlib.Core.List.{List}
+use lib.ListN.{length, getD}
+use Rattle.meaning.specs.declared.Drive.{Drive}
+use Rattle.meaning.specs.declared.Record.{Record}
+use Rattle.meaning.specs.Store.{Space, memory, disk, Store, theUnit, theDisk}
+use Rattle.meaning.specs.State.{State, mostCommands}
+use Rattle.meaning.specs.Sectors.{sectorBytes, imageLimit, sectorCount}
+use Rattle.meaning.specs.Fields.{iopbBytes}
+use Rattle.meaning.specs.Sizes.{memoryLimit}
+use Rattle.meaning.specs.Code.{commandIn, read, write}
+use Rattle.meaning.specs.Command.{stepsOf, noRecord}
+use Rattle.meaning.specs.Touch.{dataByte}
+
+-- x is one of the n bytes, or sectors, from a on
+abbrev pub Within : ℕ → ℕ → ℕ → Type 0
+Within x a n = (a ≤ x) × (x < a + n)
+
+abbrev pub Odd : ℕ → Type 0
+Odd a = a % 2 ≡ 1
+
+-- an image over its limit, or not of the drive's size
+abbrev pub ImageWrong : Drive → Store → Type 0
+ImageWrong d s = (imageLimit < length (s theDisk)) ⊎ (length (s theDisk) ≢ sectorBytes * sectorCount d)
+
+-- memory over its limit, or such an image
+abbrev pub StoreWrong : Drive → Store → Type 0
+StoreWrong d s = (memoryLimit < length (s memory)) ⊎ ImageWrong d s
+
+-- or a table shorter than 32
+abbrev pub SizesWrong : Drive → State → Type 0
+SizesWrong d s = StoreWrong d (s .store) ⊎ (length (s .table) < mostCommands)
+
+-- a Read Data with code 00, a Write Data with code 00
+abbrev pub Reads : Record → Type 0
+Reads r = (r .code ≡ 0) × (commandIn (r .byte0) ≡ read)
+
+abbrev pub Writes : Record → Type 0
+Writes r = (r .code ≡ 0) × (commandIn (r .byte0) ≡ write)
+
+-- no step of it is left
+abbrev pub Finished : Record → Type 0
+Finished r = stepsOf r ≤ r .taken
+
+-- count zero, data or sectors outside memory or drive, or writing to a protected drive
+abbrev pub BadTransfer : Drive → Store → Record → Type 0
+BadTransfer d s r =
+    (r .count ≡ 0)
+    ⊎ (length (s memory) < r .address + sectorBytes * r .count)
+    ⊎ (sectorCount d < r .sector + r .count)
+    ⊎ (Writes r × (d .protected ≡ true))
+
+-- its IOPB not all in memory, or more steps taken than it has, or a transfer of that kind
+abbrev pub BadRecord : Drive → Store → Record → Type 0
+BadRecord d s r =
+    (length (s memory) < r .iopb + iopbBytes) ⊎ (stepsOf r < r .taken) ⊎ ((Reads r ⊎ Writes r) × BadTransfer d s r)
+
+-- over 32 commands, or a record in use is such a one
+abbrev pub Spoiled : Drive → ℕ → State → Type 0
+Spoiled d n s = (mostCommands < n) ⊎ ((k : ℕ) × (k < n) × (k < length (s .table)) × BadRecord d (s .store) (getD (s .table) k noRecord))
+
+-- What a command reads, and what it writes: byte x of memory, or sector x of the disk of a unit.
+abbrev pub ReadsAt : Record → Space → ℕ → Type 0
+ReadsAt r memory x = Writes r × Within x (r .address) (sectorBytes * r .count)
+ReadsAt r (disk u) x = Reads r × ((u ≡ theUnit) × Within x (r .sector) (r .count))
+
+abbrev pub WritesAt : Record → Space → ℕ → Type 0
+WritesAt r memory x = (Reads r × Within x (r .address) (sectorBytes * r .count)) ⊎ Within x (r .iopb) 4
+WritesAt r (disk u) x = Writes r × ((u ≡ theUnit) × Within x (r .sector) (r .count))
+
+-- one of them writes a byte or sector that the other reads or writes
+abbrev pub Disturbs : Record → Record → Type 0
+Disturbs r s = (p : Space) × (x : ℕ) × WritesAt r p x × (ReadsAt s p x ⊎ WritesAt s p x)
+
+abbrev pub Conflict : Record → Record → Type 0
+Conflict r s = Disturbs r s ⊎ Disturbs s r
+
+-- an earlier unfinished command conflicts with the one at p
+abbrev pub Waits : List Record → ℕ → Type 0
+Waits t p =
+    (k : ℕ)
+    × (k < p)
+    × (k < length t)
+    × ((¬ Finished (getD t k noRecord)) × Conflict (getD t k noRecord) (getD t p noRecord))

@@ -1,0 +1,18 @@
+-- What a call works on: the table of accepted commands, in the caller's hands, with memory and image. A table by value has exactly 32
+-- records; a lent one may have any number, and both forms of a call mean the same.
+use Prim.Native.Nat.{ℕ}
+use mathlib.Core.List.{List}
+use Rattle.meaning.specs.declared.Record.{Record}
+use Rattle.meaning.specs.Store.{Store, lent}
+
+-- the most commands of a chain, and the fewest records of a table
+abbrev pub mostCommands : ℕ
+mostCommands = 32
+
+pub record State : Type 0 where
+  pub table : List Record
+  pub store : Store
+
+-- memory m, image i and table t, put together
+abbrev pub stateOf : List ℕ → List ℕ → List Record → State
+stateOf m i t = record { table = t; store = lent m i }
