@@ -6,6 +6,7 @@ pub mod All
 pub mod Tests
 pub mod Overwrite
 pub mod Spaces
+pub mod Places
 pub mod Means
 pub mod Table
 pub mod Conditions
