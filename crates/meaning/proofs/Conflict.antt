@@ -8,7 +8,7 @@ use mathlib.Core.List.{List, [], _∷_, _++_}
 use lib.ListN.{getD}
 use Rattle.meaning.specs.declared.Record.{Record}
 use Rattle.meaning.specs.Store.{Space}
-use Rattle.meaning.specs.Ranges.{Range, meet}
+use Rattle.meaning.specs.Ranges.{Range}
 use Rattle.meaning.specs.Command.{reads, writes, finished, noRecord}
 use Rattle.meaning.specs.Touch.{Touched, dataBytes, statusBytes, sectors, touchedBy, touched, disturbs, conflict}
 use Rattle.meaning.specs.Pick.{waits}

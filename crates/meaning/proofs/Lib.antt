@@ -15,4 +15,5 @@ pub mod Conflict
 pub mod Records
 pub mod Numbers
 pub mod Still
+pub mod Lent
 pub mod Walks

@@ -1,7 +1,7 @@
 -- The one law of ranges that have something in common: two ranges overlap, and two lists of ranges meet, exactly where something lies in
 -- both. If two ranges overlap, the later start lies in both.
 use mathlib.Core.Path.{_≡_, refl, sym, ap, _∙_}
-use mathlib.Core.Logic.{_↔_, _⊎_, inl, inr}
+use mathlib.Core.Logic.{_⊎_, inl, inr}
 use Prim.Native.Nat.{ℕ, _+_, _<_, max, min}
 use native.Mathlib.Omega.{arith}
 use mathlib.Core.Bool.{Bool}
