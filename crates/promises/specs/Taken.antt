@@ -1,0 +1,65 @@
+-- Steps one after another, by the places at which they are taken, and both runs as such: what a run leaves comes of accepted picks at some
+-- places of its own table, on its own drive, as many as it reports; and each of them moves one named sector, closes one command, or both.
+use mathlib.Core.Path.{_≡_}
+use Prim.Native.Nat.{ℕ, _<_}
+use mathlib.Core.List.{List, [], _∷_}
+use lib.ListN.{length}
+use Rattle.meaning.specs.declared.Drive.{Drive}
+use Rattle.meaning.specs.declared.Ran.{Ran}
+use Rattle.meaning.specs.State.{State}
+use Rattle.meaning.specs.Pick.{pickNumber, stepAt}
+use Rattle.meaning.specs.Run.{byPicks, asWritten, RunGives}
+use Rattle.meaning.specs.Conditions.{Finished}
+use Rattle.promises.specs.PickMoves.{commandAt, PickMoves}
+
+-- the steps at the places ps, one after another
+abbrev pub stepsAt : Drive → List ℕ → State → State
+stepsAt d [] s = s
+stepsAt d (p ∷ ps) s = stepsAt d ps (stepAt d p s)
+
+-- P holds of each of them: of the state in which it is taken, and its place
+abbrev pub Along : Drive → (State → ℕ → Type 0) → List ℕ → State → Type 0
+Along d P [] s = Unit {0}
+Along d P (p ∷ ps) s = P s p × Along d P ps (stepAt d p s)
+
+-- picks at the places ps, each accepted when its turn comes, lead from s to s′
+pub record Taken (d : Drive) (n : ℕ) (ps : List ℕ) (s s′ : State) : Type 0 where
+  pub accepted : Along d (λ (u : State) (p : ℕ). pickNumber d n p u ≡ 0) ps s
+  pub leave : s′ ≡ stepsAt d ps s
+
+-- k such picks lead from s to s′
+pub record BySteps (d : Drive) (n : ℕ) (s s′ : State) (k : ℕ) : Type 0 where
+  pub places : List ℕ
+  pub taken : Taken d n places s s′
+  pub many : length places ≡ k
+
+-- qs is ps with some left out
+pub data LeftOut : List ℕ → List ℕ → Type 0 where
+  none : LeftOut [] []
+  keep : {p : ℕ} {ps qs : List ℕ} → LeftOut ps qs → LeftOut (p ∷ ps) (p ∷ qs)
+  leave : {p : ℕ} {ps qs : List ℕ} → LeftOut ps qs → LeftOut (p ∷ ps) qs
+
+-- every command before place p is finished
+abbrev pub Earliest : State → ℕ → Type 0
+Earliest s p = (k : ℕ) → k < p → Finished (commandAt s k)
+
+-- a run by the picks ps takes some of them, in their order
+abbrev pub RunByPicksTakesSteps : Type 0
+RunByPicksTakesSteps =
+    (d : Drive) (n : ℕ) (ps : List ℕ) (s : State) (r : Ran) (s′ : State)
+    → RunGives d n (byPicks d n ps) s r s′
+    → (b : BySteps d n s s′ (r .steps)) × (r .number ≡ 0 → LeftOut ps (b .places))
+
+-- a run as written takes each step of the earliest unfinished command
+abbrev pub RunAsWrittenTakesSteps : Type 0
+RunAsWrittenTakesSteps =
+    (d : Drive) (n b : ℕ) (s : State) (r : Ran) (s′ : State)
+    → RunGives d n (asWritten d n b) s r s′
+    → (y : BySteps d n s s′ (r .steps)) × Along d Earliest (y .places) s
+
+-- each step along the way moves one
+abbrev pub StepsMoveOne : Type 0
+StepsMoveOne =
+    (d : Drive) (n : ℕ) (ps : List ℕ) (s s′ : State)
+    → Taken d n ps s s′
+    → Along d (λ (u : State) (p : ℕ). PickMoves d p u (stepAt d p u)) ps s
