@@ -10,7 +10,7 @@ use Rattle.meaning.specs.declared.Part.{Part}
 use Rattle.meaning.specs.Store.{Store, theUnit, theDisk, get}
 use Rattle.meaning.specs.Sectors.{largestSector, onDisk, imageRight}
 
--- 1 for an image over its limit or not of the drive's size, then 10 where there is no such sector, otherwise 0
+-- 1 for an image over its limit or not of the drive's size, then 10 where there is no such sector, otherwise 0 (Look 4 to 6)
 unfoldable pub lookNumber : Drive → ℕ → Store → ℕ
 lookNumber d n s =
     firstOf
@@ -19,7 +19,7 @@ lookNumber d n s =
     ∷ [])
     0
 
--- the sector's own bytes, or none exactly where the number is not 0
+-- the sector's own bytes, or none exactly where the number is not 0 (Look 1 and 3)
 unfoldable pub lookPart : Drive → ℕ → Store → List ℕ
 unfolding lookNumber get
 lookPart d n s = cond (eqb (lookNumber d n s) 0) (get (onDisk theUnit n) s) []

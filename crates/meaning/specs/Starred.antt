@@ -17,7 +17,7 @@ use Rattle.meaning.specs.Pick.{badTransfer, badRecord, spoiled, waits, p
 use Rattle.meaning.specs.Deck.{benchDrive, layRecord, benchMemory, sectorsTo, benchImage}
 use Rattle.meaning.specs.Bench.{noRecords, benchState}
 
--- "positions and bytes in hex": byte `at` of a record is `is`
+-- byte `at` of a record is `is`
 pub record Byte : Type 0 where
   pub at : ℕ
   pub is : ℕ
@@ -26,7 +26,7 @@ infix 70 _≔_
 abbrev pub _≔_ : ℕ → ℕ → Byte
 p ≔ v = record { at = p; is = v }
 
--- "each record's other bytes are 00"
+-- each record's other bytes are 00
 abbrev pub put : List ℕ → List Byte → List ℕ
 put b [] = b
 put b (v ∷ vs) = put (set b (v .at) (v .is)) vs
@@ -34,7 +34,7 @@ put b (v ∷ vs) = put (set b (v .at) (v .is)) vs
 abbrev pub deckRecord : List Byte → List ℕ
 deckRecord vs = put (replicate 32 0) vs
 
--- the deck of document 01
+-- the deck of Bench 10
 abbrev pub exampleDeck : List ℕ
 exampleDeck =
     deckRecord (0 ≔ 0x22 ∷ 9 ≔ 0x01 ∷ 0xC ≔ 0x01 ∷ 0xD ≔ 0x02 ∷ 0x12 ≔ 0x04 ∷ 0x17 ≔ 0x20 ∷ [])
@@ -75,25 +75,25 @@ abbrev pub answer : Asks → ℕ
 answer (codeOfCommand vs) = codeIn (chainOf (deckRecord vs))
 answer (firstPick p) = pickIn exampleDeck p (chainOf exampleDeck)
 
--- a Read Data of 01's rows: count at byte 9, cylinder at B, head at C, sector at D, address at 12 and 13
+-- Line 1 to 10, 21 and 22. A Read Data has its count at byte 9, cylinder at B, head at C, sector at D, address at 12 and 13
 abbrev pub rows : List Example
 rows =
-    -- "cylinder 1, head 1, sector 7, count 1, address 400H: 00", "Count 2: 10H"
+    -- Line 1 and 2: the last sector of the drive, and one sector too many
     codeOfCommand (0 ≔ 2 ∷ 9 ≔ 1 ∷ 0xB ≔ 1 ∷ 0xC ≔ 1 ∷ 0xD ≔ 7 ∷ 0x12 ≔ 0x04 ∷ []) ⇒ 0x00
     ∷ codeOfCommand (0 ≔ 2 ∷ 9 ≔ 2 ∷ 0xB ≔ 1 ∷ 0xC ≔ 1 ∷ 0xD ≔ 7 ∷ 0x12 ≔ 0x04 ∷ []) ⇒ 0x10
-    -- "Cylinder 2 with head 2: 10H", "Head 2: 11H", "Sector 8: 12H"
+    -- Line 3 to 5: cylinder 2 with head 2, head 2, sector 8
     ∷ codeOfCommand (0 ≔ 2 ∷ 9 ≔ 1 ∷ 0xB ≔ 2 ∷ 0xC ≔ 2 ∷ 0x12 ≔ 0x04 ∷ []) ⇒ 0x10
     ∷ codeOfCommand (0 ≔ 2 ∷ 9 ≔ 1 ∷ 0xC ≔ 2 ∷ 0x12 ≔ 0x04 ∷ []) ⇒ 0x11
     ∷ codeOfCommand (0 ≔ 2 ∷ 9 ≔ 1 ∷ 0xD ≔ 8 ∷ 0x12 ≔ 0x04 ∷ []) ⇒ 0x12
-    -- "Count 0 with cylinder 9: 13H"
+    -- Line 6: count 0 with cylinder 9
     ∷ codeOfCommand (0 ≔ 2 ∷ 0xB ≔ 9 ∷ 0x12 ≔ 0x04 ∷ []) ⇒ 0x13
-    -- "Count 1 at address E00H: 00", "At E01H: 4BH"
+    -- Line 7 and 8: data that ends with memory, and one byte past it
     ∷ codeOfCommand (0 ≔ 2 ∷ 9 ≔ 1 ∷ 0x12 ≔ 0x0E ∷ []) ⇒ 0x00
     ∷ codeOfCommand (0 ≔ 2 ∷ 9 ≔ 1 ∷ 0x12 ≔ 0x0E ∷ 0x13 ≔ 0x01 ∷ []) ⇒ 0x4B
-    -- "Next address odd, command 5: 1EH", "Command 5, not chained: 14H"
+    -- Line 9 and 10: command 5 with an odd next address, and not chained
     ∷ codeOfCommand (0 ≔ 0x25 ∷ 0x17 ≔ 0x21 ∷ []) ⇒ 0x1E
     ∷ codeOfCommand (0 ≔ 0x05 ∷ []) ⇒ 0x14
-    -- "The deck above: pick 1 first gets 6", "pick 2 first is accepted"
+    -- Line 21 and 22: of the deck above, pick 1 first has to wait, pick 2 first may go
     ∷ firstPick 1 ⇒ 6
     ∷ firstPick 2 ⇒ 0
     ∷ []
