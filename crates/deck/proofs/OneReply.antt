@@ -1,5 +1,5 @@
 -- One reply alone meets each contract: what it says fixes the outcome, the codes of its commands and the zeros past them; the count, the
--- bytes put and the rest. Assumes nothing.
+-- bytes put and the rest.
 use mathlib.Core.Path.{_≡_, refl, sym, ap, ap₂, _∙_}
 use Prim.Native.Nat.{ℕ, _-_, _≤_}
 use native.Mathlib.Omega.{arith}

@@ -1,4 +1,4 @@
--- "no second reply could meet it": of the two contracts of this crate that are no plain equation. Assumes nothing.
+-- "no second reply could meet it": of the two contracts of this crate that are no plain equation.
 use mathlib.Core.Path.{_≡_}
 use Prim.Native.Nat.{ℕ}
 use mathlib.Core.List.{List}

@@ -1,9 +1,11 @@
 -- To look at a sector: its number, and the part of the image that it is.
-use Prim.Native.Nat.{ℕ}
+use Prim.Native.Nat.{ℕ, _+_}
+use mathlib.Core.Path.{_≡_}
 use mathlib.Core.Bool.{not, cond}
 use mathlib.Core.List.{List, [], _∷_}
-use lib.ListN.{length}
+use lib.ListN.{length, take, drop}
 use lib.Dec.{ltb, eqb}
+use denote.Ref.{RefT, ptr, now}
 use Rattle.meaning.specs.First.{firstOf, _↝_}
 use Rattle.meaning.specs.declared.Drive.{Drive}
 use Rattle.meaning.specs.declared.Part.{Part}
@@ -30,3 +32,7 @@ unfolding lookNumber
 lookedPart d n s =
     let x = onDisk theUnit n in
     cond (eqb (lookNumber d n s) 0) (record { at = x .from; length = x .many }) (record { at = 0; length = 0 })
+
+-- r is that part of the run s itself, and not a copy: it begins in s's own bytes at that place, and shows the bytes there (Look 1)
+abbrev pub IsPart : Part → RefT (List ℕ) → RefT (List ℕ) → Type 0
+IsPart p s r = (ptr r .0 ≡ ptr s .0) × (ptr r .1 ≡ ptr s .1 + p .at) × (now r ≡ take (p .length) (drop (p .at) (now s)))

@@ -1,7 +1,8 @@
 -- The run as written at its first command: as many steps of it as the budget and what remains of it allow, and then the rest. So a
 -- finished command is passed by, and of an unfinished one a single step may be taken before the same with one step less of budget.
 use mathlib.Core.Path.{_≡_, refl, sym, ap, _∙_}
-use Prim.Native.Nat.{ℕ, suc, _+_, _-_, _<_, min}
+use Prim.Native.Nat.{ℕ, suc, _+_, _-_, _≤_, _<_, min}
+use native.Mathlib.Omega.{arith}
 use native.Mathlib.Nat.{min-zero, sub-zero, suc-min-suc, suc-sub-suc, suc-add, add-suc}
 use mathlib.Core.Bool.{true}
 use mathlib.Core.List.{List, [], _∷_}
@@ -65,3 +66,8 @@ pub length-written : (d : Drive) (b : ℕ) (t : List Record) (s : Store) → len
 unfolding written
 length-written d b [] s = refl
 length-written d b (r ∷ rs) s = let k = min b (remaining r) in ap suc (length-written d (b - k) rs (stepsDone d k r s))
+
+pub within-budget : (d : Drive) (b : ℕ) (t : List Record) (s : Store) → written d b t s .steps ≤ b
+unfolding written
+within-budget d b [] s = omega arith
+within-budget d b (r ∷ rs) s = let k = min b (remaining r) in omega (arith, within-budget d (b - k) rs (stepsDone d k r s))

@@ -1,4 +1,4 @@
--- `deck::run::run_chain` meets its contract: a refusal is told by its number, an accepted chain by its codes and steps. Assumes nothing.
+-- `deck::run::run_chain` meets its contract: a refusal is told by its number, an accepted chain by its codes and steps.
 use lib.ListN.{take}
 use borrow.Author.Needs.{needs}
 use Rattle.deck.proofs.Running.{refused-outcome, few-commands, ran-outcome}
