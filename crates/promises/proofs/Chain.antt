@@ -78,7 +78,7 @@ module _ (m : List ℕ) (d : Drive) (start : ℕ) where
   abbrev pub Verdict : Chain → Type 0
   Verdict (refused N) = (N ≢ 0) × InTurn m start N
   Verdict (accepted rs) =
-      (k : ℕ) × (k < mostCommands) × (Comes m start k × Given (atIopb m start k) 0) × (rs ≡ commandsTo (suc k))
+      (k : ℕ) × (Comes m start k × Given (atIopb m start k) 0) × (rs ≡ commandsTo (suc k))
 
   -- the k-th IOPB gives the verdict, or the rest of the chain does
   at-verdict : (k : ℕ) {a b : Bool} (g : Bool) (rest : Chain)
@@ -92,7 +92,7 @@ module _ (m : List ℕ) (d : Drive) (start : ℕ) where
   at-verdict k g rest (holds o) y z l c on = (omega arith, (k, c, (omega arith, o)))
   at-verdict k g rest (fails n) (holds s) z l c on = (omega arith, (k, c, (omega arith, (n, s))))
   at-verdict k true rest (fails n) (fails p) z l c on = on (omega arith, (n, (p, (when-false z refl, tt))))
-  at-verdict k false rest (fails n) (fails p) z l c on = (k, l, (c, (omega arith, (n, (p, when-true z refl)))), refl)
+  at-verdict k false rest (fails n) (fails p) z l c on = (k, (c, (omega arith, (n, (p, when-true z refl)))), refl)
 
   follow-verdict : (left k : ℕ)
       → k + left ≡ mostCommands

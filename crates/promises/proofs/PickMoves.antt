@@ -1,6 +1,5 @@
 -- An accepted pick is one step at its place: number 0 says that the step may be taken, and the table is stored at that place only.
 use mathlib.Core.Path.{_≡_, refl, sym, _∙_}
-use mathlib.Core.Logic.{inl, inr}
 use Prim.Native.Nat.{ℕ, _<_}
 use native.Mathlib.Omega.{arith}
 use lib.ListN.{length, length-set}
@@ -12,10 +11,11 @@ use Rattle.meaning.specs.State.{State}
 use Rattle.meaning.specs.Command.{noRecord}
 use Rattle.meaning.specs.Step.{stepped}
 use Rattle.meaning.specs.Pick.{pickNumber, stepAt, picked, PickGives}
-use Rattle.meaning.proofs.Numbers.{in-table, pick-passed}
+use Rattle.meaning.proofs.Means.{when-false}
+use Rattle.meaning.proofs.Conditions.{means-store, means-finished, means-bad-record}
+use Rattle.meaning.proofs.Numbers.{Free, place-free, Passed, pick-passed, store-right, in-table, none-bad}
 use Rattle.promises.specs.StepMoves.{MayStep}
 use Rattle.promises.specs.PickMoves.{commandAt, OneStepMore, PickMoves, AcceptedPickMovesOne}
-use Rattle.promises.proofs.Numbers.{pick-number-exactly-when}
 use Rattle.promises.proofs.StepMoves.{step-moves-one}
 
 one-step-more : (r : Record) → OneStepMore r (stepped r)
@@ -23,19 +23,21 @@ unfolding stepped
 one-step-more r = record { taken = refl; iopb = refl; address = refl; sector = refl; count = refl; byte0 = refl; code = refl }
 
 module _ (d : Drive) (n p : ℕ) (s : State) (zero : pickNumber d n p s ≡ 0) where
+  passed : Passed d n s
+  passed = pick-passed d n s p zero .0
+
+  free : Free (s .table) n p
+  free = place-free (s .table) n p (pick-passed d n s p zero .1)
+
   place : p < length (s .table)
-  place =
-      let given = pick-number-exactly-when d n p s 0 .0 zero in
-      let long = in-table d n s (pick-passed d n s p zero .0) in
-      omega (arith, given .1 .1 .0)
+  place = let h = in-table d n s passed in let k = free .inUse in omega arith
 
   pub may-step : MayStep d (commandAt s p) (s .store)
   may-step =
-      let given = pick-number-exactly-when d n p s 0 .0 zero in
       record {
-        sizes = λ w. given .0 (inl w);
-        sound = λ b. given .1 .0 (inr (p, omega (arith, given .1 .1 .0), place, b));
-        unfinished = given .1 .1 .1 .0;
+        sizes = when-false (means-store d (s .store)) (store-right d n s passed);
+        sound = when-false (means-bad-record d (s .store) (commandAt s p)) (none-bad d n s passed p (free .inUse));
+        unfinished = when-false (means-finished (commandAt s p)) (free .unfinished);
       }
 
   -- the step at that place

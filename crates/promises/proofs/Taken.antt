@@ -13,7 +13,7 @@ use Rattle.meaning.specs.Run.{runNumber, Tally, atStart, onePick, picksFrom, by
 use Rattle.meaning.proofs.Means.{Means, holds, fails, means-eq}
 use Rattle.meaning.proofs.Numbers.{Passed, pick-passed}
 use Rattle.meaning.proofs.Still.{passed-step}
-use Rattle.promises.specs.Taken.{stepsAt, Along, BySteps, LeftOut, none, keep, leave, RunByPicksTakesSteps, StepsMoveOne}
+use Rattle.promises.specs.Taken.{stepsAt, Along, BySteps, Tried, none, take, pass, RunByPicksTakesSteps, StepsMoveOne}
 use Rattle.promises.proofs.PickMoves.{taken-moves-one}
 
 -- ---- along the way
@@ -75,10 +75,10 @@ steps-move-one d n ps s s′ h = along-map d (Accepted d n) _ (λ u p. taken-mov
 
 -- ---- by picks
 
--- some of the picks ps lead from the one tally to the other, and are counted
+-- the picks ps lead from the one tally to the other by those that are accepted, and these are counted
 record Counted (d : Drive) (n : ℕ) (ps : List ℕ) (y y′ : Tally) : Type 0 where
   places : List ℕ
-  some : LeftOut ps places
+  tried : Tried d n (y .state) ps places
   accepted : Along d (Accepted d n) places (y .state)
   left : y′ .state ≡ stepsAt d places (y .state)
   many : y′ .steps ≡ y .steps + length places
@@ -99,18 +99,18 @@ module _ (d : Drive) (n : ℕ) where
       let c = rest (took p y) in
       record {
         places = p ∷ c .places;
-        some = keep (c .some);
+        tried = take z (c .tried);
         accepted = (z, c .accepted);
         left = c .left;
         many = let e = c .many in omega arith;
       }
-  one-counted p ps y (fails _) rest =
+  one-counted p ps y (fails o) rest =
       let c = rest (passed y) in
-      record { places = c .places; some = leave (c .some); accepted = c .accepted; left = c .left; many = c .many }
+      record { places = c .places; tried = pass o (c .tried); accepted = c .accepted; left = c .left; many = c .many }
 
   picks-counted : (ps : List ℕ) (y : Tally) → Counted d n ps y (picksFrom d n ps y)
   unfolding picksFrom onePick
-  picks-counted [] y = record { places = []; some = none; accepted = tt; left = refl; many = omega arith }
+  picks-counted [] y = record { places = []; tried = none; accepted = tt; left = refl; many = omega arith }
   picks-counted (p ∷ ps) y = one-counted p ps y (means-eq (pickNumber d n p (y .state)) 0) (picks-counted ps)
 
 pub run-by-picks-takes-steps : RunByPicksTakesSteps
@@ -120,10 +120,10 @@ run-by-picks-takes-steps d n ps s r s′ g = rw (g .0, g .1) (whole (means-eq (r
     left : Bool → Tally
     left b = cond b (picksFrom d n ps (atStart s)) (atStart s)
 
-    whole : {b : Bool} → Means (runNumber d n s ≡ 0) b → (x : BySteps d n s (left b .state) (left b .steps)) × (runNumber d n s ≡ 0 → LeftOut ps (x .places))
+    whole : {b : Bool} → Means (runNumber d n s ≡ 0) b → (x : BySteps d n s (left b .state) (left b .steps)) × (runNumber d n s ≡ 0 → Tried d n s ps (x .places))
     whole (holds _) =
         let c = picks-counted d n ps (atStart s) in (
           record { places = c .places; taken = record { accepted = c .accepted; leave = c .left }; many = let e = c .many in omega arith },
-          λ _. c .some,
+          λ _. c .tried,
         )
     whole (fails o) = (record { places = []; taken = record { accepted = tt; leave = refl }; many = refl }, λ z. absurd (o z))

@@ -32,7 +32,7 @@ in-turn-once m start {N} {M} (k, c, g) (l, d, h) = go (means-lt k l) (means-lt l
 -- the number of a chain, and its end
 verdict-in-turn : (m : List ℕ) (d : Drive) (start : ℕ) (c : Chain) → Verdict m d start c → InTurn m start (answered c .number)
 verdict-in-turn m d start (refused N) v = v .1
-verdict-in-turn m d start (accepted rs) v = (v .0, v .2 .0, v .2 .1)
+verdict-in-turn m d start (accepted rs) v = (v .0, v .1 .0, v .1 .1)
 
 -- the walk's number, the tests 1 and 2 first
 first-two : (a b : Bool) (c : Chain)

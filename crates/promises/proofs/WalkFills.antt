@@ -6,7 +6,7 @@ use native.Mathlib.Nat.{not-suc-le-zero}
 use native.Mathlib.Omega.{arith}
 use mathlib.Core.Bool.{Bool, true, false, cond}
 use mathlib.Core.List.{List, [], _∷_, _++_}
-use lib.ListN.{length, getD, drop, length-append, length-drop, List·getD-append}
+use lib.ListN.{length, getD, drop, length-append, List·getD-append}
 use lib.Seq.{getD-at, getD-append-add, getD-drop}
 use Rattle.meaning.specs.declared.Drive.{Drive}
 use Rattle.meaning.specs.declared.Record.{Record}
@@ -17,18 +17,15 @@ use Rattle.meaning.specs.Code.{odd}
 use Rattle.meaning.specs.Walk.{Chain, refused, accepted, chainAt, answered, filled, walkReply, walkLeaves, WalkGives}
 use Rattle.meaning.specs.Command.{noRecord}
 use Rattle.meaning.proofs.Numbers.{sizes-long}
+use Rattle.meaning.proofs.Walks.{table-length}
 use Rattle.promises.specs.WalkNumbers.{Filled, WalkFills}
 use Rattle.promises.proofs.Chain.{up-to, recordAt, commandsTo, Verdict, chain, chain-verdict}
 
--- a list with another behind the part that it takes the place of
-module _ {A : Type 0} (rs t : List A) (z : A) where
-  getD-behind : (j : ℕ) → length rs ≤ j → getD (rs ++ drop (length rs) t) j z ≡ getD t j z
-  getD-behind j h =
-      let e : length rs + (j - length rs) ≡ j = omega arith in
-      rw (← e) (getD-append-add rs (drop (length rs) t) (j - length rs) z ∙ getD-drop (length rs) t (j - length rs) z)
-
-  length-behind : length rs ≤ length t → length (rs ++ drop (length rs) t) ≡ length t
-  length-behind h = simp (length-append, length-drop) (omega arith)
+-- a list in front of what is left of another
+getD-behind : {A : Type 0} (rs t : List A) (z : A) (j : ℕ) → length rs ≤ j → getD (rs ++ drop (length rs) t) j z ≡ getD t j z
+getD-behind rs t z j h =
+    let e : length rs + (j - length rs) ≡ j = omega arith in
+    rw (← e) (getD-append-add rs (drop (length rs) t) (j - length rs) z ∙ getD-drop (length rs) t (j - length rs) z)
 
 module _ (m : List ℕ) (d : Drive) (start : ℕ) where
   length-commands : (k : ℕ) → length (commandsTo m d start k) ≡ k
@@ -50,8 +47,9 @@ module _ (m : List ℕ) (d : Drive) (start : ℕ) where
       → answered c .number ≡ 0
       → (k : ℕ) × Filled m d start t (answered c) (filled c t) k
   chain-filled t (refused N) l v e = absurd (v .0 e)
-  chain-filled t (accepted rs) l (k, most, v, e) _ =
-      let long : length rs ≡ suc k = rw e (length-commands (suc k)) in (
+  chain-filled t (accepted rs) l (k, v, e) _ =
+      let long : length rs ≡ suc k = rw e (length-commands (suc k)) in
+      let few = v .1 .0 in (
         k,
         record {
           comes = v .0;
@@ -59,7 +57,7 @@ module _ (m : List ℕ) (d : Drive) (start : ℕ) where
           commands = long;
           records = λ j h. List·getD-append rs _ noRecord j (omega arith) ∙ rw e (getD-commands (suc k) j (omega arith));
           others = λ j h. getD-behind rs t noRecord j (omega arith);
-          size = length-behind rs t noRecord (omega arith);
+          size = table-length rs t (omega arith);
         },
       )
 

@@ -1,6 +1,7 @@
 -- Steps one after another, by the places at which they are taken, and both runs as such: what a run leaves comes of accepted picks at some
 -- places of its own table, on its own drive, as many as it reports; and each of them moves one named sector, closes one command, or both.
 use mathlib.Core.Path.{_≡_}
+use mathlib.Core.Logic.{_≢_}
 use Prim.Native.Nat.{ℕ, _<_}
 use mathlib.Core.List.{List, [], _∷_}
 use lib.ListN.{length}
@@ -33,22 +34,22 @@ pub record BySteps (d : Drive) (n : ℕ) (s s′ : State) (k : ℕ) : Type 0 whe
   pub taken : Taken d n places s s′
   pub many : length places ≡ k
 
--- qs is ps with some left out
-pub data LeftOut : List ℕ → List ℕ → Type 0 where
-  none : LeftOut [] []
-  keep : {p : ℕ} {ps qs : List ℕ} → LeftOut ps qs → LeftOut (p ∷ ps) (p ∷ qs)
-  leave : {p : ℕ} {ps qs : List ℕ} → LeftOut ps qs → LeftOut (p ∷ ps) qs
+-- The picks ps, tried in turn from state s on, come down to steps at qs: those that are refused are passed over, and no others.
+pub data Tried (d : Drive) (n : ℕ) : State → List ℕ → List ℕ → Type 0 where
+  none : {s : State} → Tried d n s [] []
+  take : {s : State} {p : ℕ} {ps qs : List ℕ} → pickNumber d n p s ≡ 0 → Tried d n (stepAt d p s) ps qs → Tried d n s (p ∷ ps) (p ∷ qs)
+  pass : {s : State} {p : ℕ} {ps qs : List ℕ} → pickNumber d n p s ≢ 0 → Tried d n s ps qs → Tried d n s (p ∷ ps) qs
 
 -- every command before place p is finished
 abbrev pub Earliest : State → ℕ → Type 0
 Earliest s p = (k : ℕ) → k < p → Finished (commandAt s k)
 
--- a run by the picks ps takes some of them, in their order
+-- a run by the picks ps takes those of them that are accepted, in their order
 abbrev pub RunByPicksTakesSteps : Type 0
 RunByPicksTakesSteps =
     (d : Drive) (n : ℕ) (ps : List ℕ) (s : State) (r : Ran) (s′ : State)
     → RunGives d n (byPicks d n ps) s r s′
-    → (b : BySteps d n s s′ (r .steps)) × (r .number ≡ 0 → LeftOut ps (b .places))
+    → (b : BySteps d n s s′ (r .steps)) × (r .number ≡ 0 → Tried d n s ps (b .places))
 
 -- a run as written takes each step of the earliest unfinished command
 abbrev pub RunAsWrittenTakesSteps : Type 0
