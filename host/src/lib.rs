@@ -10,7 +10,8 @@ pub mod field;
 pub mod boards;
 pub mod ordinary;
 
-// What holds them to the second program: random chains, and stored cases.
+// What holds them to the second program: random chains and stored cases; decks, for the bench.
+pub mod decks;
 pub mod differ;
 pub mod player;
 pub mod translate;

@@ -1,13 +1,11 @@
-//! Plays cases in the format of docs/TRIAL.md over the archive, and prints what that page says.
+//! Plays cases in the format of docs/CASES.md over the archive, and prints what that page says.
 //! The state, the lines that set it and the text of the answers are the second program's; every
-//! call on the board is the archive's. Two answers are not: the archive has no call that sums
-//! steps, so `steps` is the second program's, and so is whether the bytes of a `deck` are a deck.
+//! call on the board is the archive's. A `deck` is no call on the board: `decks` has it played.
 
 use crate::archive;
 use crate::declared::{LentRan, Record};
 use crate::field;
 use crate::translate::{drive_of, record_of, second_fields_of, second_record_of};
-use second::bench::{bench, bench_board, BenchReply, DECK_RECORD};
 use second::run::{PicksReply, WrittenReply};
 use second::trial::answer::Answer;
 use second::trial::line::{Line, TABLE_RECORDS};
@@ -63,7 +61,8 @@ impl Player {
             Line::Look(sector) => self.look(*sector as u32),
             Line::Fields(at) => self.fields(*at as u32),
             Line::View(at) => self.view(*at as u32),
-            Line::Deck(deck) => Answer::Deck(play_deck(deck)),
+            Line::Steps => self.steps()?,
+            Line::Deck(_) => return Err("a deck is for the bench, and not for the archive".into()),
             other => return self.state.play(other),
         })
     }
@@ -120,6 +119,17 @@ impl Player {
         Answer::Written(WrittenReply { number, steps, finished })
     }
 
+    /// The archive has no call that sums steps, but a run as written from a chain's start, with no
+    /// end to its budget, reports them. Where it is refused, nothing is asked of the archive.
+    fn steps(&self) -> Result<Answer, String> {
+        let mut from_start = Player { state: self.state.clone() };
+        from_start.state.table.iter_mut().for_each(|record| record.taken = 0);
+        match from_start.written(BY_VALUE, u64::MAX) {
+            Answer::Written(WrittenReply { number: 0, steps, .. }) => Ok(Answer::Steps(steps)),
+            _ => self.state.clone().play(&Line::Steps),
+        }
+    }
+
     fn look(&self, sector: u32) -> Answer {
         let board = &self.state.board;
         let drive = drive_of(&board.drive);
@@ -146,26 +156,4 @@ impl Player {
         let fields = second_fields_of(&field::view(memory, at));
         Answer::View { number: field::view_number(memory, at), fields }
     }
-}
-
-/// What the bench prints for a deck, with the archive's walk and run.
-fn play_deck(deck: &[u8]) -> BenchReply {
-    if bench(deck) == BenchReply::Deck {
-        return BenchReply::Deck;
-    }
-    let mut board = bench_board(deck[31] == 1);
-    for (k, record) in deck.chunks(DECK_RECORD).enumerate() {
-        let at = DECK_RECORD * k;
-        board.memory[at..at + 30].copy_from_slice(&record[..30]);
-    }
-    let (memory, image) = (&mut board.memory, &mut board.image);
-    let drive = drive_of(&board.drive);
-    let mut table = [Record::default(); BY_VALUE];
-    let walked = archive::walk(memory, image, drive, 0, &mut table);
-    if walked.number != 0 {
-        return BenchReply::Chain(walked.number);
-    }
-    let ran = archive::run_written(memory, image, drive, &mut table, walked.commands, u64::MAX);
-    let codes = table[..walked.commands].iter().map(|record| record.code).collect();
-    BenchReply::Lines { codes, steps: ran.steps }
 }

@@ -1,10 +1,8 @@
-//! Cases in the format of docs/TRIAL.md, played over the archive and by the second program: every
+//! Cases in the format of docs/CASES.md, played over the archive and by the second program: every
 //! line printed must be the same.
 
 use host::player::play_cases;
 use second::makers::cases::random_case;
-use second::makers::decks::deck_case;
-use second::makers::lines::all_lines;
 use second::trial::stream::run_cases;
 use std::fs::read_to_string;
 use std::path::Path;
@@ -42,30 +40,21 @@ fn same(cases: &str, expected: &str) {
 }
 
 #[test]
-fn the_cases_made_by_hand() {
-    hold(&all_lines().text());
-}
-
-#[test]
 fn random_cases() {
     hold(&(0..1_000).map(|n| random_case(5, n).text()).collect::<String>());
 }
 
-#[test]
-fn random_decks() {
-    hold(&(0..100).map(|n| deck_case(5, n)).collect::<String>());
-}
-
-/// The stored cases, which `trial` plays by value: over a lent table they print the same.
+/// Every stored case but the decks: those made by hand, and three thousand random ones.
 #[test]
 fn stored_cases() {
-    hold_stored("../crates/trial/stdin", "../crates/trial/stdout");
+    hold_stored("cases/stored.cases", "cases/stored.expected");
 }
 
-/// The stored cases whose images are too large for `trial`.
+/// The archive has no deck, so none may pass here as if it were tried.
 #[test]
-fn stored_cases_with_large_images() {
-    hold_stored("cases/large.cases", "cases/large.expected");
+fn a_deck_is_refused() {
+    let error = by_archive("case 1\ndeck 1 2 3\n").expect_err("the archive has no deck");
+    assert!(error.starts_with("line 2: "), "{error}");
 }
 
 /// A run over a lent table: as by value with 32 records or more, refused with fewer.

@@ -92,8 +92,8 @@ fn nothing_counted_stays_at_zero() {
     }
 }
 
-/// The worked case of the club's page on trials. Its digests were worked out
-/// apart from this program.
+/// The worked case of docs/CASES.md. Its digests were worked out apart from
+/// this program.
 const WORKED_CASE: &str = "case 1
 drive 0 0 1 0
 memory 1024 0 0

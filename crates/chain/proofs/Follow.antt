@@ -1,7 +1,8 @@
 -- The walk's loop against `follow`: at its head the commands so far stand in the first n records, and what is left to follow is
--- what was to follow from the start. One law for each way out of a turn, and one for a turn that goes on. Assumes nothing.
+-- what was to follow from the start. One law for each way out of a turn, and one for a turn that goes on.
 use mathlib.Core.Path.{_≡_, refl, sym, ap, _∙_, subst₂}
 use Prim.Native.Nat.{ℕ, suc, _+_, _-_, _≤_, _<_}
+use native.Mathlib.Nat.{le-of-eq}
 use native.Mathlib.Numerals.{add-one}
 use native.Mathlib.Omega.{arith}
 use mathlib.Core.Bool.{Bool, true, false, not}
@@ -11,12 +12,17 @@ use lib.Seq.{take-suc-set, drop-set-lt, drop-drop, length-take-le}
 use Rattle.meaning.specs.declared.Copied.{Copied}
 use Rattle.meaning.specs.declared.Drive.{Drive}
 use Rattle.meaning.specs.declared.Record.{Record}
-use Rattle.meaning.specs.declared.Walked.{Walked}
+use Rattle.meaning.specs.declared.WalkedTable.{WalkedTable}
 use Rattle.meaning.specs.Each.{someOf}
 use Rattle.meaning.specs.Fields.{allIn}
-use Rattle.meaning.specs.Code.{copiedAt}
-use Rattle.meaning.specs.Walk.{Chain, refused, accepted, recordOf, goesOn, shares, follow, reply}
+use Rattle.meaning.specs.Store.{memory}
+use Rattle.meaning.specs.State.{State, mostCommands}
+use Rattle.meaning.specs.Sizes.{storeWrong, sizesWrong}
+use Rattle.meaning.specs.Code.{copiedAt, odd}
+use Rattle.meaning.specs.Walk.{Chain, refused, accepted, recordOf, goesOn, shares, follow, chainAt, WalkGives}
 use Rattle.meaning.proofs.Rows.{pass, stop}
+use Rattle.meaning.proofs.Numbers.{full-table}
+use Rattle.chain.specs.Kept.{kept}
 
 pub record Walking (m : List ℕ) (d : Drive) (start : ℕ) (table filled : List Record) (addresses : List ℕ) (n at : ℕ) : Type 0 where
   pub most : n ≤ 32
@@ -31,8 +37,8 @@ some-map : (p : ℕ → Bool) (rs : List Record) → someOf p (map (λ (r : Reco
 some-map p [] = refl
 some-map p (r ∷ rs) = simp (some-map p rs)
 
-abbrev pub ending : ℕ → List Record → Walked
-ending n t = record { number = 0; commands = n; table = t }
+abbrev pub ending : ℕ → List Record → WalkedTable
+ending n t = record { walked = record { number = 0; commands = n }; table = t }
 
 module _ (m : List ℕ) (d : Drive) (start : ℕ) (table filled : List Record) (addresses : List ℕ) (n at : ℕ) (w : Walking m d start table filled addresses n at) where
   -- one more command is allowed: what `follow` does with it
@@ -101,8 +107,7 @@ module _ (m : List ℕ) (d : Drive) (start : ℕ) (table filled : List Record) (
       }
 
   -- what the walk replies where the chain ends with this record
-  reply-ends : (r : Record) → n < 32 → ending (n + 1) (set filled n r) ≡ reply (accepted (take (n + 1) (set filled n r))) table
-  unfolding reply
+  reply-ends : (r : Record) → n < 32 → ending (n + 1) (set filled n r) ≡ kept (accepted (take (n + 1) (set filled n r))) table
   reply-ends r h =
       let x = set filled n r in
       let long : length (take (n + 1) x) ≡ n + 1 = length-take-le (n + 1) x (omega (arith, length-set filled n r, w .filled-length)) in
@@ -120,8 +125,34 @@ module _ (m : List ℕ) (d : Drive) (start : ℕ) (table filled : List Record) (
         subst₂ (λ (x : Record) (y : Copied). Walking m d start table (set filled n x) (set addresses n at) (n + 1) (y .next))
         (sym stored) (sym is-copied) (walked-on h i e (sym (ap goesOn is-copied) ∙ g))
 
-    pub last-turn : goesOn c ≡ false → ending (n + 1) (set filled n r) ≡ reply (follow 32 m d [] start) table
+    pub last-turn : goesOn c ≡ false → ending (n + 1) (set filled n r) ≡ kept (follow 32 m d [] start) table
     last-turn g =
         ap (λ (x : Record). ending (n + 1) (set filled n x)) stored
         ∙ reply-ends _ h
-        ∙ ap (λ (x : Chain). reply x table) (sym (chain-ends h i e (sym (ap goesOn is-copied) ∙ g)))
+        ∙ ap (λ (x : Chain). kept x table) (sym (chain-ends h i e (sym (ap goesOn is-copied) ∙ g)))
+
+-- ---- the walk: 1 and 2, and then along the chain
+
+-- what is handed back of a chain is the whole of the walk that comes to it
+module _ (d : Drive) (start : ℕ) (s : State) (long : length (s .table) ≡ mostCommands) (r : WalkedTable) where
+  gives : (c : Chain) → chainAt d start s ≡ c → r ≡ kept c (s .table) → WalkGives d start s (r .walked) (r .table)
+  unfolding WalkGives
+  gives c e k =
+      let all = k ∙ ap (λ (x : Chain). kept x (s .table)) (sym e) in
+      (ap (λ (x : WalkedTable). x .walked) all, ap (λ (x : WalkedTable). x .table) all)
+
+  sizes : sizesWrong d s ≡ storeWrong d (s .store)
+  sizes = full-table d s (le-of-eq (sym long))
+
+  pub gives-1 : storeWrong d (s .store) ≡ true → r ≡ kept (refused 1) (s .table) → WalkGives d start s (r .walked) (r .table)
+  unfolding chainAt
+  gives-1 e k = gives (refused 1) (stop _ _ _ (sizes ∙ e)) k
+
+  pub gives-2 : storeWrong d (s .store) ≡ false → odd start ≡ true → r ≡ kept (refused 2) (s .table) → WalkGives d start s (r .walked) (r .table)
+  unfolding chainAt
+  gives-2 e f k = gives (refused 2) (pass _ _ _ (sizes ∙ e) ∙ stop _ _ _ f) k
+
+  pub gives-chain : storeWrong d (s .store) ≡ false → odd start ≡ false → r ≡ kept (follow 32 (s .store memory) d [] start) (s .table)
+      → WalkGives d start s (r .walked) (r .table)
+  unfolding chainAt
+  gives-chain e f k = gives (follow 32 (s .store memory) d [] start) (pass _ _ _ (sizes ∙ e) ∙ pass _ _ _ f) k

@@ -1,12 +1,14 @@
-// What the walk copies from an IOPB, and the code that its command will get: document 01's table, the first that applies.
+// What the walk copies from an IOPB, and the code that its command will get: first what every command is asked, then what only a
+// transfer is asked. The first row that applies gives the code.
 use meaning::Copied;
 use meaning::Drive;
 ghost use mathlib.Core.Path.{_≡_};
 ghost use Prim.Native.Nat.{_+_, _*_};
 ghost use mathlib.Core.Bool.{not, _&&_, _||_};
 ghost use lib.Dec.{ltb, eqb};
+ghost use Rattle.meaning.specs.First.{firstOf};
 ghost use Rattle.meaning.specs.Sectors.{sectorBytes, sectorCount};
-ghost use Rattle.meaning.specs.Code.{copiedAt, codeOf, chained, odd, gathers, commandIn, read, write, firstSector};
+ghost use Rattle.meaning.specs.Code.{copiedAt, codeOf, transferRows, chained, odd, gathers, commandIn, read, write, firstSector};
 
 // The fields of the IOPB that the walk keeps.
 pub fn copied(memory: &[u8], at: u32) -> Copied
@@ -59,9 +61,7 @@ pub(crate) fn first_sector(c: Copied, d: Drive) -> u32
 fn past_drive(c: Copied, d: Drive) -> bool
     ensures { λ r. ⌜ r ≡ ltb (sectorCount d) (firstSector d c + c .count) ⌝ }
 {
-    let end = first_sector(c, d) as u64 + c.count as u64;
-    let count = drive::sectors(d).0;
-    count < end
+    drive::past_end(drive::sectors(d), first_sector(c, d), c.count)
 }
 
 // Write Data and the drive is protected.
@@ -82,19 +82,10 @@ fn past_memory(c: Copied, memory: u64) -> bool
     memory < end
 }
 
-// The code that a command will get; memory is its length.
-pub fn code(c: Copied, d: Drive, memory: u64) -> u8
-    ensures { λ r. ⌜ r ≡ codeOf c d memory ⌝ }
+// The code of a transfer: what only a transfer is asked. memory is its length.
+fn transfer_code(c: Copied, d: Drive, memory: u64) -> u8
+    ensures { λ r. ⌜ r ≡ firstOf (transferRows c d memory) 0 ⌝ }
 {
-    if misaligned(c) {
-        return 0x1E;
-    }
-    if unimplemented(c) {
-        return 0x14;
-    }
-    if c.byte0 % 16 == 0 {
-        return 0x00;
-    }
     if c.unit != 0 {
         return 0x42;
     }
@@ -120,4 +111,20 @@ pub fn code(c: Copied, d: Drive, memory: u64) -> u8
         return 0x4B;
     }
     0x00
+}
+
+// The code that a command will get: what every command is asked, and then, of a transfer, the rest. memory is its length.
+pub fn code(c: Copied, d: Drive, memory: u64) -> u8
+    ensures { λ r. ⌜ r ≡ codeOf c d memory ⌝ }
+{
+    if misaligned(c) {
+        return 0x1E;
+    }
+    if unimplemented(c) {
+        return 0x14;
+    }
+    if c.byte0 % 16 == 0 {
+        return 0x00;
+    }
+    transfer_code(c, d, memory)
 }

@@ -1,14 +1,18 @@
 // The walk: from a first address along the chain, each IOPB copied into the table before anything moves.
 use crate::code;
+use crate::ranges;
 use crate::sizes;
 use meaning::Copied;
 use meaning::Drive;
 use meaning::Record;
 use meaning::Walked;
+use meaning::WalkedTable;
 ghost use mathlib.Core.Path.{_≡_};
 ghost use mathlib.Core.List.{[]};
 ghost use Rattle.meaning.specs.Each.{someOf};
-ghost use Rattle.meaning.specs.Walk.{Chain, recordOf, goesOn, shares, follow, reply, walkOf};
+ghost use Rattle.meaning.specs.State.{stateOf};
+ghost use Rattle.meaning.specs.Walk.{Chain, recordOf, goesOn, shares, follow, WalkGives};
+ghost use Rattle.chain.specs.Kept.{kept};
 
 // The most commands that a chain may have.
 pub const MOST_COMMANDS: usize = 32;
@@ -42,10 +46,7 @@ fn goes_on(c: Copied) -> bool
 fn share(a: u32, b: u32) -> bool
     ensures { λ r. ⌜ r ≡ shares a b ⌝ }
 {
-    if a as u64 >= b as u64 + 30 {
-        return false;
-    }
-    (b as u64) < a as u64 + 30
+    ranges::crosses(a, iopb::IOPB_BYTES as u32, b, iopb::IOPB_BYTES as u32)
 }
 
 // Some IOPB at one of these addresses shares a byte with the one at b.
@@ -63,8 +64,8 @@ fn shares_any(addresses: &[u32], b: u32) -> bool
 }
 
 // From the first IOPB on: each is tested, 5, 3, 4 in turn, and copied, until one ends the chain.
-fn follow_chain(memory: &[u8], d: Drive, start: u32, table: [Record; 32]) -> Walked
-    ensures { λ r. ⌜ r ≡ reply (follow 32 (now (memory .entry)) d [] start) table ⌝ }
+fn follow_chain(memory: &[u8], d: Drive, start: u32, table: [Record; 32]) -> WalkedTable
+    ensures { λ r. ⌜ r ≡ kept (follow 32 (now (memory .entry)) d [] start) table ⌝ }
 {
     let mut filled = table;
     let mut addresses = [0u32; 32];
@@ -82,9 +83,12 @@ fn follow_chain(memory: &[u8], d: Drive, start: u32, table: [Record; 32]) -> Wal
         addresses[n] = at;
         n += 1;
         if !goes_on(c) {
-            return Walked {
+            let walked = Walked {
                 number: 0,
                 commands: n,
+            };
+            return WalkedTable {
+                walked,
                 table: filled,
             };
         }
@@ -94,19 +98,19 @@ fn follow_chain(memory: &[u8], d: Drive, start: u32, table: [Record; 32]) -> Wal
 }
 
 // A refusal: its number, no commands, and the table as it was.
-fn refused(number: u8, table: [Record; 32]) -> Walked
-    ensures { λ r. ⌜ r ≡ reply (Chain.refused number) table ⌝ }
+fn refused(number: u8, table: [Record; 32]) -> WalkedTable
+    ensures { λ r. ⌜ r ≡ kept (Chain.refused number) table ⌝ }
 {
-    Walked {
+    let walked = Walked {
         number,
         commands: 0,
-        table,
-    }
+    };
+    WalkedTable { walked, table }
 }
 
 // The walk: 1, 2, then at each IOPB in turn 5, 3, 4; on 0 the table is filled, on a refusal nothing is changed.
-pub fn walk(memory: &[u8], image: &[u8], d: Drive, start: u32, table: [Record; 32]) -> Walked
-    ensures { λ r. ⌜ r ≡ walkOf (now (memory .entry)) (now (image .entry)) d start table ⌝ }
+pub fn walk(memory: &[u8], image: &[u8], d: Drive, start: u32, table: [Record; 32]) -> WalkedTable
+    ensures { λ r. ⌜ WalkGives d start (stateOf (now (memory .entry)) (now (image .entry)) table) (r .walked) (r .table) ⌝ }
 {
     if sizes::sizes_wrong(memory, image, d) {
         return refused(1, table);

@@ -4,7 +4,10 @@ use meaning::Count;
 use meaning::Drive;
 use meaning::Maximum;
 ghost use mathlib.Core.Path.{_≡_};
-ghost use Prim.Native.Nat.{_≤_};
+ghost use Prim.Native.Nat.{_+_, _≤_};
+ghost use mathlib.Core.List.{[]};
+ghost use lib.Dec.{ltb};
+ghost use Rattle.meaning.specs.Store.{lent};
 ghost use Rattle.meaning.specs.Sectors.{sectorCount, largestSector, sectorNumber, imageRight};
 ghost use Rattle.meaning.specs.Look.{lookNumber, lookPart};
 
@@ -32,6 +35,20 @@ pub fn largest(d: Drive) -> Maximum
     Maximum((count - 1) as u32)
 }
 
+// A sector's number is above the largest one.
+pub fn above(largest: Maximum, sector: u32) -> bool
+    ensures { λ r. ⌜ r ≡ ltb (largest .0) sector ⌝ }
+{
+    largest.0 < sector
+}
+
+// So many sectors from a first one on are more than there are.
+pub fn past_end(count: Count, first: u32, sectors: u16) -> bool
+    ensures { λ r. ⌜ r ≡ ltb (count .0) (first + sectors) ⌝ }
+{
+    count.0 < first as u64 + sectors as u64
+}
+
 // The number of a sector, from its cylinder, head and sector; defined also where one of them is above its maximum.
 pub fn sector_number(d: Drive, cylinder: u16, head: u8, sector: u8) -> u32
     ensures { λ r. ⌜ r ≡ sectorNumber d cylinder head sector ⌝ }
@@ -54,13 +71,12 @@ pub fn image_right(d: Drive, bytes: u64) -> bool
 
 // The number of a look: 1 for an image of the wrong size, then 10 for no such sector, otherwise 0.
 pub fn look_number(image: &[u8], d: Drive, sector: u32) -> u8
-    ensures { λ r. ⌜ r ≡ lookNumber (now (image .entry)) d sector ⌝ }
+    ensures { λ r. ⌜ r ≡ lookNumber d sector (lent [] (now (image .entry))) ⌝ }
 {
     if !image_right(d, image.len() as u64) {
         return 1;
     }
-    let last = largest(d).0;
-    if last < sector {
+    if above(largest(d), sector) {
         return 10;
     }
     0
@@ -68,7 +84,7 @@ pub fn look_number(image: &[u8], d: Drive, sector: u32) -> u8
 
 // The sector's 512 bytes of the image itself, or an empty part exactly where its number is not 0.
 pub fn look(image: &[u8], d: Drive, sector: u32) -> &[u8]
-    ensures { λ r. ⌜ now r ≡ lookPart (now (image .entry)) d sector ⌝ }
+    ensures { λ r. ⌜ now r ≡ lookPart d sector (lent [] (now (image .entry))) ⌝ }
 {
     if look_number(image, d, sector) != 0 {
         return &image[..0];

@@ -10,8 +10,6 @@ pub mod Takes
 pub mod Layings
 pub mod Tabled
 pub mod Parameters
-pub mod Keeping
-pub mod Fronted
 pub mod Looked
 pub mod Agree
 pub mod OneReply

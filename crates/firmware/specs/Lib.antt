@@ -1,6 +1,5 @@
 pub mod Lent
 pub mod Laid
 pub mod Looked
-pub mod Kept
 pub mod Agree
 pub mod OneReply

@@ -7,9 +7,7 @@ use Rattle.meaning.specs.declared.Drive.{Drive}
 use Rattle.meaning.specs.declared.Record.{Record}
 use Rattle.firmware.specs.declared.table.LentWalked.{LentWalked}
 use Rattle.firmware.specs.declared.table.LentRan.{LentRan}
-use Rattle.firmware.specs.declared.kept.Kept.{Kept}
 use Rattle.firmware.specs.Lent.{WalkGives, PickGives, PicksGive, WrittenGives}
-use Rattle.firmware.specs.Kept.{KeptWalkGives, KeptPickGives}
 
 -- some reply meets the postcondition P, and every reply that meets it is that one
 abbrev pub OneReply : {A : Type 0} → (A → Type 0) → Type 0
@@ -24,6 +22,3 @@ pub record EachHasOneReply : Type 0 where
   pub pick : (d : Drive) (n p : ℕ) (m i : List ℕ) (t : List Record) → OneOutcome (PickGives d n p m i t)
   pub run-by-picks : (d : Drive) (n : ℕ) (ps m i : List ℕ) (t : List Record) → OneOutcome (PicksGive d n ps m i t)
   pub run-as-written : (d : Drive) (n b : ℕ) (m i : List ℕ) (t : List Record) → OneOutcome (WrittenGives d n b m i t)
-  -- the forms for a caller that keeps its table by value
-  pub kept-walk : (m i : List ℕ) (d : Drive) (start : ℕ) (t : List Record) (n : ℕ) → OneReply (KeptWalkGives m i d start t n)
-  pub kept-pick : (d : Drive) (commands p : ℕ) (m i : List ℕ) (t : List Record) (n : ℕ) → OneReply (λ (x : Kept × List ℕ × List ℕ). KeptPickGives d commands p m i t n (x .0) (x .1) (x .2))

@@ -2,7 +2,6 @@
 // a table of at least 32 records, and refuses by document 01's numbers. include/rosadenca.h declares them for C.
 pub mod by_value;
 pub mod fields;
-pub mod kept;
 pub mod laid;
 pub mod look;
 pub mod table;

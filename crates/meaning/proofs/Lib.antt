@@ -9,6 +9,7 @@ pub mod Spaces
 pub mod Means
 pub mod Table
 pub mod Conditions
+pub mod Looks
 pub mod Records
 pub mod Numbers
 pub mod Still

@@ -44,8 +44,10 @@ spoiled-step : (d : Drive) (n p : ℕ) (s : State) → finished (getD (s .table)
 unfolding spoiled stepAt
 spoiled-step d n p s e =
     let r = getD (s .table) p noRecord in
-    rw (fun-ext (λ q. bad-as-long d (step d r (s .store)) (s .store) q (step-keeps-lengths d r (s .store))),
-      some-set (badRecord d (s .store)) (s .table) n p (stepped r) noRecord (bad-stepped d (s .store) r e))
+    rw (
+      fun-ext (λ q. bad-as-long d (step d r (s .store)) (s .store) q (step-keeps-lengths d r (s .store))),
+      some-set (badRecord d (s .store)) (s .table) n p (stepped r) noRecord (bad-stepped d (s .store) r e),
+    )
 
 -- so a step at a place that gets 0 leaves a state that 1 and 9 let pass
 pub passed-step : (d : Drive) (n p : ℕ) (s : State) → placeNumber (s .table) n p ≡ 0 → Passed d n s → Passed d n (stepAt d p s)

@@ -1,4 +1,4 @@
-//! The program `player`: cases in the format of docs/TRIAL.md on standard input, played over the
+//! The program `player`: cases in the format of docs/CASES.md on standard input, played over the
 //! archive; what that page says on standard output.
 
 use host::player::play_cases;

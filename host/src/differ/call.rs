@@ -26,7 +26,7 @@ pub enum Reply {
         at: usize,
         length: usize,
     },
-    /// The number of the viewer's making, and its fields in the order of the trial's format.
+    /// The number of the viewer's making, and its fields in the order of docs/CASES.md.
     Viewed {
         number: u8,
         fields: [u64; 18],

@@ -10,7 +10,7 @@ use second::makers::rng::Rng;
 use second::record::Record;
 use second::trial::line::{field_of, set_field};
 
-/// The most that each of the seven fields of a record may be, in the order of the trial's format.
+/// The most that each of the seven fields of a record may be, in the order of docs/CASES.md.
 const FIELD_MOST: [u64; 7] =
     [0xFFFF_FFFF, 0xFFFF_FFFF, 0xFFFF_FFFF, 0xFFFF_FFFF, 0xFFFF, 0xFF, 0xFF];
 

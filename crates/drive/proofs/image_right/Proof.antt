@@ -1,4 +1,4 @@
--- `drive::image_right` meets its contract: the limit's test decides the first half of the "and". Assumes nothing.
+-- `drive::image_right` meets its contract: the limit's test decides the first half of the "and".
 use borrow.Author.Needs.{needs}
 use native.Mathlib.Omega.{arith}
 use borrow.Author.Tests.{le-leb, lt-leb}

@@ -1,4 +1,4 @@
--- `drive::largest` meets its contract: there is one sector at least, and 2 to the 32 at most. Assumes nothing.
+-- `drive::largest` meets its contract: there is one sector at least, and 2 to the 32 at most.
 use borrow.Author.Needs.{needs}
 use native.Mathlib.Omega.{arith}
 use mathlib.Core.Path.{ap}

@@ -1,7 +1,12 @@
--- `drive::look` meets its contract: where its number is 0 the sector lies in the image. Assumes nothing.
+-- `drive::look` meets its contract: where its number is 0 the sector lies in the image.
 use borrow.Author.Needs.{needs}
-use mathlib.Core.Path.{sym, _∙_}
-use Rattle.drive.proofs.Looks.{look-within, part-refused, part-accepted}
+use mathlib.Core.Path.{sym, ap, _∙_}
+use Prim.Native.Nat.{ℕ, _*_}
+use native.Mathlib.Nat.{add-sub-cancel-left}
+use lib.ListN.{take, drop}
+use Rattle.meaning.specs.Store.{get}
+use Rattle.meaning.specs.Sectors.{sectorBytes}
+use Rattle.meaning.proofs.Looks.{look-within, part-refused, part-accepted}
 use Rattle.drive.proofs.look.Statement.{statement}
 use Rattle.drive.proofs.look.Tie as tie
 
@@ -14,7 +19,7 @@ slice-aggregate-result c = search needs
 returns : tie.Need-returns
 returns c =
     let k = c .before .before in
-    part-refused _ _ _ (λ e. c .before .if1 .taken (k .look-number .ensures ∙ e))
+    sym (part-refused _ _ _ (λ e. c .before .if1 .taken (k .look-number .ensures ∙ e)))
 
 mul-start : tie.Need-mul-start
 mul-start c = search needs
@@ -32,9 +37,13 @@ part-result-end : tie.Need-part-result-end
 part-result-end c = look-within _ _ _ (sym (c .before .look-number .ensures) ∙ c .if1 .left)
 
 returns-2 : tie.Need-returns-2
+unfolding get
 returns-2 c =
     let k = c .before in
-    part-accepted _ _ _ (sym (k .before .look-number .ensures) ∙ k .if1 .left)
+    let a = k .before .before .before .args in
+    let start = sectorBytes * a .sector in
+    ap (λ (n : ℕ). take n (drop start (a .image .now))) (add-sub-cancel-left start sectorBytes)
+    ∙ sym (part-accepted _ _ _ (sym (k .before .look-number .ensures) ∙ k .if1 .left))
 
 pub look-spec : {M : Type 1} → statement M
 look-spec =

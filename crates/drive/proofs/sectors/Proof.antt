@@ -1,4 +1,4 @@
--- `drive::sectors` meets its contract: each product is bounded by that of its factors' bounds. Assumes nothing.
+-- `drive::sectors` meets its contract: each product is bounded by that of its factors' bounds.
 use borrow.Author.Needs.{needs}
 use Prim.Native.Nat.{_*_}
 use native.Mathlib.Nat.{mul-le-mul, one-le-mul}

@@ -1,4 +1,4 @@
--- `iopb::byte_of` meets its contract: the test that led to each return says which case of `byteOf` holds. Assumes nothing.
+-- `iopb::byte_of` meets its contract: the test that led to each return says which case of `byteOf` holds.
 use borrow.Author.Tests.{le-leb, lt-leb}
 use Rattle.meaning.specs.Fields.{byteOf}
 use borrow.Author.Needs.{needs}

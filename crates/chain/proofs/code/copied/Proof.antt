@@ -1,4 +1,4 @@
--- `chain::code::copied` meets its contract: each field is what its call ensures. Assumes nothing.
+-- `chain::code::copied` meets its contract: each field is what its call ensures.
 use Rattle.meaning.specs.Code.{copiedAt}
 use borrow.Author.Needs.{needs}
 use Rattle.chain.proofs.code.copied.Statement.{statement}

@@ -1,4 +1,4 @@
--- `chain::code::forbidden` meets its contract: the command's test decides the first half of the "and". Assumes nothing.
+-- `chain::code::forbidden` meets its contract: the command's test decides the first half of the "and".
 use borrow.Author.Tests.{eq-eqb, ne-eqb}
 use Rattle.chain.proofs.code.forbidden.Statement.{statement}
 use Rattle.chain.proofs.code.forbidden.Tie as tie

@@ -1,4 +1,4 @@
--- `chain::code::misaligned` meets its contract: CHEN's test decides the first half of the "and". Assumes nothing.
+-- `chain::code::misaligned` meets its contract: CHEN's test decides the first half of the "and".
 use borrow.Author.Tests.{eq-eqb, ne-eqb}
 use Rattle.chain.proofs.code.misaligned.Statement.{statement}
 use Rattle.chain.proofs.code.misaligned.Tie as tie

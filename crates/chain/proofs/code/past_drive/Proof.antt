@@ -1,26 +1,20 @@
--- `chain::code::past_drive` meets its contract: both sides of the test are what its two calls ensure. Assumes nothing.
+-- `chain::code::past_drive` meets its contract: the count and the first sector are what the calls ensure.
 use borrow.Author.Needs.{needs}
 use Rattle.chain.proofs.code.past_drive.Statement.{statement}
 use Rattle.chain.proofs.code.past_drive.Tie as tie
 
-first-sector-requires : tie.Need-first-sector-requires
-first-sector-requires c κs = search needs
-
-cast-end : tie.Need-cast-end
-cast-end c = search needs
-
-cast-end-2 : tie.Need-cast-end-2
-cast-end-2 c = search needs
-
-add-end : tie.Need-add-end
-add-end c = search needs
-
 sectors-requires : tie.Need-sectors-requires
 sectors-requires c κs = search needs
 
+first-sector-requires : tie.Need-first-sector-requires
+first-sector-requires c κs = search needs
+
+past-end-requires : tie.Need-past-end-requires
+past-end-requires c κs = search needs
+
 returns : tie.Need-returns
-returns c = simp (c .sectors .ensures .0, c .before .before .first-sector .ensures)
+returns c = simp (c .past-end .ensures, c .before .first-sector .ensures, c .before .before .sectors .ensures .0)
 
 pub past-drive-spec : {M : Type 1} → statement M
 past-drive-spec =
-    tie.close (tie.spec first-sector-requires cast-end cast-end-2 add-end sectors-requires returns)
+    tie.close (tie.spec sectors-requires first-sector-requires past-end-requires returns)

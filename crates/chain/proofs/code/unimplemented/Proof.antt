@@ -1,4 +1,4 @@
--- `chain::code::unimplemented` meets its contract: each test decides one part of the "or". Assumes nothing.
+-- `chain::code::unimplemented` meets its contract: each test decides one part of the "or".
 use borrow.Author.Tests.{lt-ltb, le-ltb, eq-eqb, ne-eqb}
 use Rattle.chain.proofs.code.unimplemented.Statement.{statement}
 use Rattle.chain.proofs.code.unimplemented.Tie as tie

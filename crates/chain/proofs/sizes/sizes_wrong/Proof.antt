@@ -1,19 +1,19 @@
--- `chain::sizes::sizes_wrong` meets its contract: memory's test decides the first part of the "or". Assumes nothing.
+-- `chain::sizes::sizes_wrong` meets its contract: memory's test decides the first part of the "or".
 use borrow.Author.Tests.{lt-ltb, le-ltb}
-use Rattle.meaning.specs.Sizes.{sizesWrong}
+use Rattle.meaning.specs.Sizes.{storeWrong}
 use borrow.Author.Needs.{needs}
 use Rattle.chain.proofs.sizes.sizes_wrong.Statement.{statement}
 use Rattle.chain.proofs.sizes.sizes_wrong.Tie as tie
 
 returns : tie.Need-returns
-unfolding sizesWrong
+unfolding storeWrong
 returns c = simp (lt-ltb _ _ (c .if1 .taken))
 
 image-right-requires : tie.Need-image-right-requires
 image-right-requires c κs = search needs
 
 returns-2 : tie.Need-returns-2
-unfolding sizesWrong
+unfolding storeWrong
 returns-2 c = simp (le-ltb _ _ (c .before .if1 .left), c .image-right .ensures)
 
 pub sizes-wrong-spec : {M : Type 1} → statement M

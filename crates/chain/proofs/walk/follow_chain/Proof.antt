@@ -1,7 +1,8 @@
--- `chain::walk::follow_chain` meets its contract: its loop keeps `Walking`, and each return is one of the laws of `Follow`. Assumes nothing.
+-- `chain::walk::follow_chain` meets its contract: its loop keeps `Walking`, and each return is one of the laws of `Follow`.
 use mathlib.Core.Path.{refl, sym, ap, _∙_}
 use lib.Seq.{length-take-le}
-use Rattle.meaning.specs.Walk.{Chain, reply}
+use Rattle.meaning.specs.Walk.{Chain}
+use Rattle.chain.specs.Kept.{kept}
 use Rattle.meaning.proofs.Rows.{not-true, not-false}
 use Prim.Native.Nat.{_-_}
 use borrow.Author.Needs.{needs}
@@ -30,7 +31,7 @@ returns : tie.Need-returns Inv-loop μ-loop
 returns c = let k = c .before .before .before .before in
     let a = k .before .before .args in
     let l = k .loop in
-    c .refused .ensures ∙ ap (λ (x : Chain). reply x (a .table)) (sym (not-in-memory (a .memory .now) (a .d) (a .start) (a .table) (l .filled) (l .addresses) (l .n) (l .at) (l .inv) (c .before .before .before .loop-test .taken) (sym (c .before .before .all-in .ensures) ∙ not-true _ (c .before .if1 .taken))))
+    c .refused .ensures ∙ ap (λ (x : Chain). kept x (a .table)) (sym (not-in-memory (a .memory .now) (a .d) (a .start) (a .table) (l .filled) (l .addresses) (l .n) (l .at) (l .inv) (c .before .before .before .loop-test .taken) (sym (c .before .before .all-in .ensures) ∙ not-true _ (c .before .if1 .taken))))
 
 array-share-prefix-addresses : tie.Need-array-share-prefix-addresses Inv-loop μ-loop
 array-share-prefix-addresses c = search needs
@@ -51,7 +52,7 @@ returns-2 : tie.Need-returns-2 Inv-loop μ-loop
 returns-2 c = let k = c .before .before .before .before .before .before .before in
     let a = k .before .before .args in
     let l = k .loop in
-    c .refused2 .ensures ∙ ap (λ (x : Chain). reply x (a .table)) (sym (shares-a-byte (a .memory .now) (a .d) (a .start) (a .table) (l .filled) (l .addresses) (l .n) (l .at) (l .inv) (c .before .before .before .before .before .before .loop-test .taken) (sym (c .before .before .before .before .before .all-in .ensures) ∙ not-false _ (c .before .before .before .before .if1 .left)) (sym (c .before .before .shares-any .ensures) ∙ c .before .if2 .taken)))
+    c .refused2 .ensures ∙ ap (λ (x : Chain). kept x (a .table)) (sym (shares-a-byte (a .memory .now) (a .d) (a .start) (a .table) (l .filled) (l .addresses) (l .n) (l .at) (l .inv) (c .before .before .before .before .before .before .loop-test .taken) (sym (c .before .before .before .before .before .all-in .ensures) ∙ not-false _ (c .before .before .before .before .if1 .left)) (sym (c .before .before .shares-any .ensures) ∙ c .before .if2 .taken)))
 
 copied-requires : tie.Need-copied-requires Inv-loop μ-loop
 copied-requires c κs = search needs
@@ -103,7 +104,7 @@ returns-4 : tie.Need-returns-4 Inv-loop μ-loop
 returns-4 c = let k = c .before .before in
     let a = k .before .before .args in
     let l = k .loop in
-    c .refused3 .ensures ∙ ap (λ (x : Chain). reply x (a .table)) (sym (too-many (a .memory .now) (a .d) (a .start) (a .table) (l .filled) (l .addresses) (l .n) (l .at) (l .inv) (c .before .loop-test .left)))
+    c .refused3 .ensures ∙ ap (λ (x : Chain). kept x (a .table)) (sym (too-many (a .memory .now) (a .d) (a .start) (a .table) (l .filled) (l .addresses) (l .n) (l .at) (l .inv) (c .before .loop-test .left)))
 
 pub follow-chain-spec : {M : Type 1} → statement M
 follow-chain-spec =

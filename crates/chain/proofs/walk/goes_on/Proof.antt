@@ -1,4 +1,4 @@
--- `chain::walk::goes_on` meets its contract: CHEN's test decides the first half of the "and". Assumes nothing.
+-- `chain::walk::goes_on` meets its contract: CHEN's test decides the first half of the "and".
 use borrow.Author.Tests.{eq-eqb, ne-eqb}
 use Rattle.chain.proofs.walk.goes_on.Statement.{statement}
 use Rattle.chain.proofs.walk.goes_on.Tie as tie

@@ -1,4 +1,4 @@
--- `chain::walk::record_of` meets its contract: the sector and the code are what the two calls ensure. Assumes nothing.
+-- `chain::walk::record_of` meets its contract: the sector and the code are what the two calls ensure.
 use Rattle.meaning.specs.Walk.{recordOf}
 use borrow.Author.Needs.{needs}
 use Rattle.chain.proofs.walk.record_of.Statement.{statement}

@@ -1,4 +1,4 @@
--- `chain::walk::shares_any` meets its contract: what was passed shares nothing, so what is left decides. Assumes nothing.
+-- `chain::walk::shares_any` meets its contract: what was passed shares nothing, so what is left decides.
 use mathlib.Core.Path.{ap}
 use native.Mathlib.Nat.{le-refl}
 use borrow.Author.Needs.{needs}

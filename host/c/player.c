@@ -1,0 +1,299 @@
+/*
+ * Plays cases in the format of docs/CASES.md, from standard input, over the archive that it is linked with, and prints what that page
+ * says. It takes every line but `steps` and `deck`, for which the archive has no function. tools/x86_64 builds and runs it.
+ */
+#include "rosadenca.h"
+
+#include <inttypes.h>
+#include <stdio.h>
+#include <stdlib.h>
+#include <string.h>
+
+/* The limits of the format. A list of picks has the most numbers, and is the longest line. */
+enum { MOST_MEMORY = 66560, MOST_IMAGE = 16778240, RECORDS = 40, MOST_NUMBERS = 256, LINE_BYTES = 2048 };
+
+/* The calls that are not lent use the first 32 records. */
+enum { BY_VALUE = ROSADENCA_MOST_COMMANDS };
+
+/* The state of a case. */
+static uint8_t memory[MOST_MEMORY], image[MOST_IMAGE];
+static size_t memory_length, image_length;
+static rosadenca_drive drive;
+static rosadenca_record table[RECORDS];
+static size_t commands, lent;
+
+/* The numbers of the line that is played. */
+static uint64_t number[MOST_NUMBERS];
+static size_t numbers;
+
+static uint32_t digest(uint32_t before, const uint8_t *bytes, size_t length)
+{
+    for (size_t k = 0; k < length; k++)
+        before = (before + bytes[k]) * UINT32_C(16777619);
+    return before;
+}
+
+/* A number of so many bytes, the high byte first. */
+static uint32_t digest_number(uint32_t before, uint32_t value, size_t bytes)
+{
+    for (size_t k = bytes; k > 0; k--) {
+        uint8_t byte = (uint8_t)(value >> 8 * (k - 1));
+        before = digest(before, &byte, 1);
+    }
+    return before;
+}
+
+static const uint32_t of_nothing = UINT32_C(2166136261);
+
+static uint32_t digest_table(void)
+{
+    uint32_t so_far = of_nothing;
+    for (size_t k = 0; k < RECORDS; k++) {
+        so_far = digest_number(so_far, table[k].iopb, 4);
+        so_far = digest_number(so_far, table[k].address, 4);
+        so_far = digest_number(so_far, table[k].sector, 4);
+        so_far = digest_number(so_far, table[k].taken, 4);
+        so_far = digest_number(so_far, table[k].count, 2);
+        so_far = digest_number(so_far, table[k].byte0, 1);
+        so_far = digest_number(so_far, table[k].code, 1);
+    }
+    return so_far;
+}
+
+/* The end of most lines: the digests of memory, image and table. */
+static void print_digests(void)
+{
+    printf(" %08" PRIx32 " %08" PRIx32 " %08" PRIx32 "\n", digest(of_nothing, memory, memory_length),
+           digest(of_nothing, image, image_length), digest_table());
+}
+
+/* The lines that set the state. Each says whether the line is in the format, as far as this program's own memory depends on it. */
+
+static bool play_case(void)
+{
+    memory_length = image_length = commands = 0;
+    lent = BY_VALUE;
+    memset(&drive, 0, sizeof drive);
+    memset(table, 0, sizeof table);
+    printf("case %" PRIu64 "\n", number[0]);
+    return true;
+}
+
+static bool play_memory(void)
+{
+    if (number[0] > MOST_MEMORY)
+        return false;
+    memory_length = number[0];
+    for (size_t k = 0; k < memory_length; k++)
+        memory[k] = (uint8_t)(number[1] + number[2] * k);
+    return true;
+}
+
+static bool play_image(void)
+{
+    if (number[0] > MOST_IMAGE)
+        return false;
+    image_length = number[0];
+    for (size_t k = 0; k < image_length; k++)
+        image[k] = (uint8_t)(number[1] + number[2] * (k / ROSADENCA_SECTOR_BYTES) + number[3] * (k % ROSADENCA_SECTOR_BYTES));
+    return true;
+}
+
+/* All numbers but the first are bytes, and the first is where they go. */
+static bool put_bytes(uint8_t *run, size_t length)
+{
+    if (number[0] > length || numbers - 1 > length - number[0])
+        return false;
+    for (size_t k = 1; k < numbers; k++)
+        run[number[0] + k - 1] = (uint8_t)number[k];
+    return true;
+}
+
+static bool play_put(void) { return put_bytes(memory, memory_length); }
+
+static bool play_disk(void) { return put_bytes(image, image_length); }
+
+static bool play_drive(void)
+{
+    drive.cylinder = (uint16_t)number[0];
+    drive.head = (uint8_t)number[1];
+    drive.sector = (uint8_t)number[2];
+    drive.write_protected = number[3] != 0;
+    return true;
+}
+
+static bool set_field(uint64_t place, uint64_t field, uint64_t value)
+{
+    if (place >= RECORDS)
+        return false;
+    rosadenca_record *record = &table[place];
+    switch (field) {
+    case 0: record->iopb = (uint32_t)value; return true;
+    case 1: record->address = (uint32_t)value; return true;
+    case 2: record->sector = (uint32_t)value; return true;
+    case 3: record->taken = (uint32_t)value; return true;
+    case 4: record->count = (uint16_t)value; return true;
+    case 5: record->byte0 = (uint8_t)value; return true;
+    case 6: record->code = (uint8_t)value; return true;
+    default: return false;
+    }
+}
+
+static bool play_record(void)
+{
+    for (size_t field = 0; field < 7; field++)
+        if (!set_field(number[0], field, number[field + 1]))
+            return false;
+    return true;
+}
+
+static bool play_spoil(void) { return set_field(number[0], number[1], number[2]); }
+
+static bool play_commands(void)
+{
+    commands = number[0];
+    return true;
+}
+
+static bool play_lent(void)
+{
+    lent = number[0];
+    return lent <= RECORDS;
+}
+
+/* The lines that call. */
+
+static bool walk(const char *word, size_t records)
+{
+    rosadenca_lent_walked walked =
+        rosadenca_walk(memory, memory_length, image, image_length, drive, (uint32_t)number[0], table, records);
+    commands = walked.commands;
+    printf("%s %d %zu", word, walked.number, walked.commands);
+    print_digests();
+    return true;
+}
+
+static bool play_walk(void) { return walk("walk", BY_VALUE); }
+
+static bool play_lent_walk(void) { return walk("lentwalk", lent); }
+
+static bool pick(const char *word, size_t records)
+{
+    uint8_t reply = rosadenca_pick(memory, memory_length, image, image_length, drive, table, records, commands, number[0]);
+    printf("%s %d", word, reply);
+    print_digests();
+    return true;
+}
+
+static bool play_pick(void) { return pick("pick", BY_VALUE); }
+
+static bool play_lent_pick(void) { return pick("lentpick", lent); }
+
+static bool play_picks(void)
+{
+    uint8_t picks[MOST_NUMBERS];
+    for (size_t k = 0; k < numbers; k++)
+        picks[k] = (uint8_t)number[k];
+    rosadenca_lent_ran ran = rosadenca_run_picks(memory, memory_length, image, image_length, drive, table, BY_VALUE, commands, picks,
+                                                 numbers);
+    printf("picks %d %" PRIu64 " %" PRIu64 " %d", ran.number, ran.steps, ran.refused, ran.finished);
+    print_digests();
+    return true;
+}
+
+static bool play_written(void)
+{
+    rosadenca_lent_ran ran = rosadenca_run_written(memory, memory_length, image, image_length, drive, table, BY_VALUE, commands,
+                                                   number[0]);
+    printf("written %d %" PRIu64 " %d", ran.number, ran.steps, ran.finished);
+    print_digests();
+    return true;
+}
+
+static bool play_look(void)
+{
+    uint32_t sector = (uint32_t)number[0];
+    rosadenca_part part = rosadenca_look(image, image_length, drive, sector);
+    printf("look %d %zu %08" PRIx32 "\n", rosadenca_look_number(image, image_length, drive, sector), part.length,
+           digest(of_nothing, image + part.at, part.length));
+    return true;
+}
+
+static void print_fields(const uint8_t *run, size_t length, uint32_t at)
+{
+    printf(" %d %d %d %d %d %d", rosadenca_errs(run, length, at), rosadenca_done(run, length, at), rosadenca_chen(run, length, at),
+           rosadenca_sgm(run, length, at), rosadenca_command(run, length, at), rosadenca_completion(run, length, at));
+    printf(" %d %d %d %d %d %d", rosadenca_wrpt(run, length, at), rosadenca_oncl(run, length, at), rosadenca_drdy(run, length, at),
+           rosadenca_internal(run, length, at), rosadenca_subfunction(run, length, at), rosadenca_unit(run, length, at));
+    printf(" %d %d %d %d %" PRIu32 " %" PRIu32 "\n", rosadenca_count(run, length, at), rosadenca_cylinder(run, length, at),
+           rosadenca_head(run, length, at), rosadenca_sector(run, length, at), rosadenca_data_address(run, length, at),
+           rosadenca_next_address(run, length, at));
+}
+
+/* The archive views even addresses alone, so an odd one is viewed one byte earlier in the memory that begins one byte later. */
+static bool play_fields(void)
+{
+    uint32_t at = (uint32_t)number[0];
+    size_t later = at % 2 != 0 && memory_length > 0 ? 1 : 0;
+    fputs("fields", stdout);
+    print_fields(memory + later, memory_length - later, at - at % 2);
+    return true;
+}
+
+static bool play_view(void)
+{
+    uint32_t at = (uint32_t)number[0];
+    printf("view %d", rosadenca_view_number(memory, memory_length, at));
+    print_fields(memory, memory_length, at);
+    return true;
+}
+
+/* Each word, the fewest and the most numbers that follow it, and what is done. */
+static const struct {
+    const char *word;
+    size_t least, most;
+    bool (*play)(void);
+} words[] = {
+    {"case", 1, 1, play_case},         {"memory", 3, 3, play_memory},       {"put", 2, 65, play_put},
+    {"image", 4, 4, play_image},       {"disk", 2, 65, play_disk},          {"drive", 4, 4, play_drive},
+    {"record", 8, 8, play_record},     {"spoil", 3, 3, play_spoil},         {"commands", 1, 1, play_commands},
+    {"lent", 1, 1, play_lent},         {"walk", 1, 1, play_walk},           {"pick", 1, 1, play_pick},
+    {"picks", 0, 256, play_picks},     {"written", 1, 1, play_written},     {"look", 1, 1, play_look},
+    {"fields", 1, 1, play_fields},     {"view", 1, 1, play_view},           {"lentwalk", 1, 1, play_lent_walk},
+    {"lentpick", 1, 1, play_lent_pick},
+};
+
+/* Plays one line, which is taken apart. Whether it is in the format. */
+static bool play(char *line)
+{
+    char *rest = strchr(line, ' ');
+    numbers = 0;
+    if (rest != NULL)
+        *rest++ = '\0';
+    while (rest != NULL && *rest != '\0') {
+        char *end;
+        if (numbers == MOST_NUMBERS || *rest < '0' || *rest > '9')
+            return false;
+        number[numbers++] = strtoull(rest, &end, 10);
+        rest = *end == ' ' ? end + 1 : end;
+    }
+    for (size_t k = 0; k < sizeof words / sizeof words[0]; k++)
+        if (strcmp(line, words[k].word) == 0)
+            return words[k].least <= numbers && numbers <= words[k].most && words[k].play();
+    return false;
+}
+
+int main(void)
+{
+    static char line[LINE_BYTES];
+    for (unsigned long at = 1; fgets(line, LINE_BYTES, stdin) != NULL; at++) {
+        char *end = strchr(line, '\n');
+        if (end != NULL)
+            *end = '\0';
+        if (end == NULL || !play(line)) {
+            fprintf(stderr, "player: line %lu is outside the format\n", at);
+            return 1;
+        }
+    }
+    return fflush(stdout) == 0 ? 0 : 1;
+}

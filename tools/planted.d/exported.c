@@ -1,0 +1,98 @@
+/*
+ * The functions of include/rosadenca.h over the same functions as the toolchain compiles them inside a program, which is the only way
+ * in which it compiles what is not proved: a program exports none of them, and passes runs and structs by pointers of its own.
+ * tools/planted makes the inner functions reachable under the names that are declared here.
+ */
+#include "rosadenca.h"
+
+/* A lent run, as the toolchain passes it: by a pointer to its place and its length. */
+typedef struct {
+    const void *at;
+    size_t length;
+} run;
+
+void inner_rosadenca_walk(rosadenca_lent_walked *, const run *, const run *, const rosadenca_drive *, uint32_t, const run *);
+uint32_t inner_rosadenca_pick(const run *, const run *, const rosadenca_drive *, const run *, size_t, size_t);
+void inner_rosadenca_run_picks(rosadenca_lent_ran *, const run *, const run *, const rosadenca_drive *, const run *, size_t,
+                               const run *);
+void inner_rosadenca_run_written(rosadenca_lent_ran *, const run *, const run *, const rosadenca_drive *, const run *, size_t,
+                                 uint64_t);
+void inner_rosadenca_look(rosadenca_part *, const run *, const rosadenca_drive *, uint32_t);
+uint32_t inner_rosadenca_look_number(const run *, const rosadenca_drive *, uint32_t);
+
+rosadenca_lent_walked rosadenca_walk(const uint8_t *memory, size_t memory_length, const uint8_t *image, size_t image_length,
+                                     rosadenca_drive drive, uint32_t start, rosadenca_record *table, size_t table_length)
+{
+    rosadenca_lent_walked walked;
+    inner_rosadenca_walk(&walked, &(run){memory, memory_length}, &(run){image, image_length}, &drive, start,
+                         &(run){table, table_length});
+    return walked;
+}
+
+/* A small number fills only the low bits of a register, so each is taken as 32 bits and cut. */
+uint8_t rosadenca_pick(uint8_t *memory, size_t memory_length, uint8_t *image, size_t image_length, rosadenca_drive drive,
+                       rosadenca_record *table, size_t table_length, size_t commands, size_t place)
+{
+    return (uint8_t)inner_rosadenca_pick(&(run){memory, memory_length}, &(run){image, image_length}, &drive,
+                                         &(run){table, table_length}, commands, place);
+}
+
+rosadenca_lent_ran rosadenca_run_picks(uint8_t *memory, size_t memory_length, uint8_t *image, size_t image_length,
+                                       rosadenca_drive drive, rosadenca_record *table, size_t table_length, size_t commands,
+                                       const uint8_t *picks, size_t picks_length)
+{
+    rosadenca_lent_ran ran;
+    inner_rosadenca_run_picks(&ran, &(run){memory, memory_length}, &(run){image, image_length}, &drive, &(run){table, table_length},
+                              commands, &(run){picks, picks_length});
+    return ran;
+}
+
+rosadenca_lent_ran rosadenca_run_written(uint8_t *memory, size_t memory_length, uint8_t *image, size_t image_length,
+                                         rosadenca_drive drive, rosadenca_record *table, size_t table_length, size_t commands,
+                                         uint64_t budget)
+{
+    rosadenca_lent_ran ran;
+    inner_rosadenca_run_written(&ran, &(run){memory, memory_length}, &(run){image, image_length}, &drive,
+                                &(run){table, table_length}, commands, budget);
+    return ran;
+}
+
+uint8_t rosadenca_look_number(const uint8_t *image, size_t image_length, rosadenca_drive drive, uint32_t sector)
+{
+    return (uint8_t)inner_rosadenca_look_number(&(run){image, image_length}, &drive, sector);
+}
+
+rosadenca_part rosadenca_look(const uint8_t *image, size_t image_length, rosadenca_drive drive, uint32_t sector)
+{
+    rosadenca_part part;
+    inner_rosadenca_look(&part, &(run){image, image_length}, &drive, sector);
+    return part;
+}
+
+/* What is read of an IOPB: one number of the memory and an address. */
+#define READS(type, name)                                                         \
+    uint32_t inner_##name(const run *, uint32_t);                                 \
+    type name(const uint8_t *memory, size_t memory_length, uint32_t at)           \
+    {                                                                             \
+        return (type)inner_##name(&(run){memory, memory_length}, at);             \
+    }
+
+READS(uint8_t, rosadenca_view_number)
+READS(uint8_t, rosadenca_errs)
+READS(uint8_t, rosadenca_done)
+READS(uint8_t, rosadenca_chen)
+READS(uint8_t, rosadenca_sgm)
+READS(uint8_t, rosadenca_command)
+READS(uint8_t, rosadenca_completion)
+READS(uint8_t, rosadenca_wrpt)
+READS(uint8_t, rosadenca_oncl)
+READS(uint8_t, rosadenca_drdy)
+READS(uint8_t, rosadenca_internal)
+READS(uint8_t, rosadenca_subfunction)
+READS(uint8_t, rosadenca_unit)
+READS(uint16_t, rosadenca_count)
+READS(uint16_t, rosadenca_cylinder)
+READS(uint8_t, rosadenca_head)
+READS(uint8_t, rosadenca_sector)
+READS(uint32_t, rosadenca_data_address)
+READS(uint32_t, rosadenca_next_address)
