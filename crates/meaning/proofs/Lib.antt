@@ -12,5 +12,6 @@ pub mod Conditions
 pub mod Looks
 pub mod Records
 pub mod Numbers
+pub mod Counts
 pub mod Still
 pub mod Walks
