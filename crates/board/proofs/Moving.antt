@@ -178,3 +178,12 @@ module _ (n : ℕ) (r : Record) (s : Store) (y : Ready n r s) (h : 1 ≤ n) (t :
 
   pub room-in-memory : inMemory r + sectorBytes * n ≤ length (s memory)
   room-in-memory = omega (arith, y .bytes t (n - 1) (omega arith))
+
+-- a command has few steps, since its count is sixteen bits; so one that is not finished has taken few
+pub steps-small : (r : Record) → r .count < 65536 → stepsOf r < 65536
+unfolding stepsOf
+steps-small r h = go (transfers r)
+  where
+    go : (b : Bool) → cond b (r .count) 1 < 65536
+    go true = h
+    go false = omega arith

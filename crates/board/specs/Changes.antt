@@ -4,7 +4,7 @@
 use mathlib.Core.Path.{_≡_}
 use Prim.Native.Nat.{ℕ}
 use mathlib.Core.Bool.{false, cond}
-use mathlib.Core.List.{List, [], _∷_, map}
+use mathlib.Core.List.{List, [], _∷_}
 use lib.ListN.{getD, take}
 use lib.Dec.{eqb}
 use Rattle.meaning.specs.declared.Drive.{Drive}
@@ -40,8 +40,10 @@ tableWith [] t = t
 tableWith (n ∷ ns) [] = []
 tableWith (n ∷ ns) (r ∷ t) = withTaken n r ∷ tableWith ns t
 
+-- the steps taken of each record
 abbrev pub takenOf : List Record → List ℕ
-takenOf t = map (λ r. r .taken) t
+takenOf [] = []
+takenOf (r ∷ t) = r .taken ∷ takenOf t
 
 -- ---- what is handed on of the caller's state
 
