@@ -1,105 +1,100 @@
--- What a command touches, by its kind, in the forms in which the code tests it: the bytes and sectors that it reads or writes are
--- its data, its status bytes and its sectors for a transfer, and its status bytes for any other. Assumes nothing.
+-- What a command touches, by its kind, in the forms in which the code tests it: a transfer's data, status bytes and sectors, and any other
+-- command's status bytes. A range of memory meets no sectors, and a range of sectors no memory.
 use mathlib.Core.Path.{_≡_, refl, ap, _∙_}
+use Prim.Native.Nat.{ℕ, _*_}
+use native.Mathlib.Nat.{add-zero}
 use mathlib.Core.Bool.{Bool, true, false, _||_, true≢false, false≢true}
-use mathlib.Core.List.{[], _∷_, _++_}
+use mathlib.Core.List.{List, _++_}
 use Rattle.meaning.specs.declared.Record.{Record}
 use Rattle.meaning.specs.Each.{someOf}
+use Rattle.meaning.specs.Store.{theUnit}
+use Rattle.meaning.specs.Sectors.{sectorBytes}
+use Rattle.meaning.specs.Ranges.{Range, bytes, sectorsOf, crosses, overlap}
 use Rattle.meaning.specs.Command.{reads, writes, transfers}
-use Rattle.meaning.specs.Touch.{Range, Touched, overlap, dataBytes, statusBytes, sectors, touched, disturbs, touchedBy}
+use Rattle.meaning.specs.Touch.{Touched, touchedBy, touched, disturbs}
+use Rattle.meaning.proofs.Tests.{or-no}
 
-bytes-by : (a b : Bool) (s : Record) → (a || b) ≡ true → touchedBy a b s .bytesRead ++ touchedBy a b s .bytesWritten ≡ dataBytes s ∷ statusBytes s ∷ []
-bytes-by true b s e = refl
-bytes-by false true s e = refl
-bytes-by false false s e = absurd (false≢true e)
+-- all that a command touches meets a range
+abbrev pub meets : Range → Touched → Bool
+meets x y = someOf (overlap x) (y .read ++ y .written)
 
-no-bytes-by : (a b : Bool) (s : Record) → (a || b) ≡ false → touchedBy a b s .bytesRead ++ touchedBy a b s .bytesWritten ≡ statusBytes s ∷ []
-no-bytes-by true b s e = absurd (true≢false e)
-no-bytes-by false true s e = absurd (true≢false e)
-no-bytes-by false false s e = refl
+-- ---- a range against what s touches
 
-sectors-by : (a b : Bool) (s : Record) → (a || b) ≡ true → touchedBy a b s .sectorsRead ++ touchedBy a b s .sectorsWritten ≡ sectors s ∷ []
-sectors-by true b s e = refl
-sectors-by false true s e = refl
-sectors-by false false s e = absurd (false≢true e)
+module _ (a n : ℕ) (s : Record) where
+  abbrev data-met : Bool
+  data-met = crosses a n (s .address) (sectorBytes * s .count)
 
-no-sectors-by : (a b : Bool) (s : Record) → (a || b) ≡ false → touchedBy a b s .sectorsRead ++ touchedBy a b s .sectorsWritten ≡ []
-no-sectors-by true b s e = absurd (true≢false e)
-no-sectors-by false true s e = absurd (true≢false e)
-no-sectors-by false false s e = refl
+  abbrev status-met : Bool
+  status-met = crosses a n (s .iopb) 4
 
-or-nothing : (b : Bool) → (b || false) ≡ b
-or-nothing true = refl
-or-nothing false = refl
+  abbrev sectors-met : Bool
+  sectors-met = crosses a n (s .sector) (s .count)
 
-module _ (x : Range) (s : Record) where
-  -- a range against the bytes of s
-  pub bytes-hit-data : transfers s ≡ true → overlap x (dataBytes s) ≡ true → someOf (overlap x) (touched s .bytesRead ++ touched s .bytesWritten) ≡ true
+  bytes-by : (rd wr : Bool) → (rd || wr) ≡ true → meets (bytes a n) (touchedBy rd wr s) ≡ (data-met || status-met)
+  bytes-by true wr e = rw (add-zero (s .address), or-no status-met) refl
+  bytes-by false true e = rw (add-zero (s .address), or-no status-met) refl
+  bytes-by false false e = absurd (false≢true e)
+
+  status-by : (rd wr : Bool) → (rd || wr) ≡ false → meets (bytes a n) (touchedBy rd wr s) ≡ status-met
+  status-by true wr e = absurd (true≢false e)
+  status-by false true e = absurd (true≢false e)
+  status-by false false e = or-no status-met
+
+  sectors-by : (rd wr : Bool) → (rd || wr) ≡ true → meets (sectorsOf theUnit a n) (touchedBy rd wr s) ≡ sectors-met
+  sectors-by true wr e = or-no sectors-met
+  sectors-by false true e = or-no sectors-met
+  sectors-by false false e = absurd (false≢true e)
+
+  none-by : (rd wr : Bool) → (rd || wr) ≡ false → meets (sectorsOf theUnit a n) (touchedBy rd wr s) ≡ false
+  none-by true wr e = absurd (true≢false e)
+  none-by false true e = absurd (true≢false e)
+  none-by false false e = refl
+
+  pub bytes-of-transfer : transfers s ≡ true → meets (bytes a n) (touched s) ≡ (data-met || status-met)
   unfolding touched
-  bytes-hit-data t e = ap (someOf (overlap x)) (bytes-by (reads s) (writes s) s t) ∙ ap (λ (b : Bool). b || (overlap x (statusBytes s) || false)) e
+  bytes-of-transfer t = bytes-by (reads s) (writes s) t
 
-  pub bytes-past-data : (b : Bool) → transfers s ≡ true → overlap x (dataBytes s) ≡ false → overlap x (statusBytes s) ≡ b
-      → someOf (overlap x) (touched s .bytesRead ++ touched s .bytesWritten) ≡ b
+  pub bytes-of-other : transfers s ≡ false → meets (bytes a n) (touched s) ≡ status-met
   unfolding touched
-  bytes-past-data b t e f =
-      ap (someOf (overlap x)) (bytes-by (reads s) (writes s) s t)
-      ∙ ap (λ (y : Bool). y || (overlap x (statusBytes s) || false)) e
-      ∙ or-nothing (overlap x (statusBytes s))
-      ∙ f
+  bytes-of-other t = status-by (reads s) (writes s) t
 
-  pub bytes-of-status : (b : Bool) → transfers s ≡ false → overlap x (statusBytes s) ≡ b → someOf (overlap x) (touched s .bytesRead ++ touched s .bytesWritten) ≡ b
+  pub sectors-of-transfer : transfers s ≡ true → meets (sectorsOf theUnit a n) (touched s) ≡ sectors-met
   unfolding touched
-  bytes-of-status b t f = ap (someOf (overlap x)) (no-bytes-by (reads s) (writes s) s t) ∙ or-nothing (overlap x (statusBytes s)) ∙ f
+  sectors-of-transfer t = sectors-by (reads s) (writes s) t
 
-  -- a range against the sectors of s
-  pub sectors-of-transfer : (b : Bool) → transfers s ≡ true → overlap x (sectors s) ≡ b → someOf (overlap x) (touched s .sectorsRead ++ touched s .sectorsWritten) ≡ b
+  pub sectors-of-other : transfers s ≡ false → meets (sectorsOf theUnit a n) (touched s) ≡ false
   unfolding touched
-  sectors-of-transfer b t f = ap (someOf (overlap x)) (sectors-by (reads s) (writes s) s t) ∙ or-nothing (overlap x (sectors s)) ∙ f
+  sectors-of-other t = none-by (reads s) (writes s) t
 
-  pub no-sectors : transfers s ≡ false → someOf (overlap x) (touched s .sectorsRead ++ touched s .sectorsWritten) ≡ false
-  unfolding touched
-  no-sectors t = ap (someOf (overlap x)) (no-sectors-by (reads s) (writes s) s t)
+-- ---- what r writes against what y touches, by the kind of r
 
--- what r writes against what y touches, by the kind of r
 module _ (r : Record) (y : Touched) where
-  pub read-hits : reads r ≡ true → someOf (overlap (dataBytes r)) (y .bytesRead ++ y .bytesWritten) ≡ true → disturbs (touched r) y ≡ true
+  abbrev data-meets : Bool
+  data-meets = meets (bytes (r .address) (sectorBytes * r .count)) y
+
+  abbrev status-meets : Bool
+  status-meets = meets (bytes (r .iopb) 4) y
+
+  abbrev sectors-meet : Bool
+  sectors-meet = meets (sectorsOf theUnit (r .sector) (r .count)) y
+
+  pub read-disturbs : reads r ≡ true → disturbs (touched r) y ≡ (data-meets || status-meets)
   unfolding disturbs touched
-  read-hits k e =
-      ap (λ (b : Bool). disturbs (touchedBy b (writes r) r) y) k
-      ∙ ap (λ (b : Bool). (b || (someOf (overlap (statusBytes r)) (y .bytesRead ++ y .bytesWritten) || false)) || false) e
+  read-disturbs e =
+      ap (λ (b : Bool). disturbs (touchedBy b (writes r) r) y) e
+      ∙ ap (λ (k : ℕ). meets (bytes k (sectorBytes * r .count)) y || (status-meets || false)) (add-zero (r .address))
+      ∙ ap (λ (b : Bool). data-meets || b) (or-no status-meets)
 
-  pub read-rest : (b : Bool) → reads r ≡ true → someOf (overlap (dataBytes r)) (y .bytesRead ++ y .bytesWritten) ≡ false
-      → someOf (overlap (statusBytes r)) (y .bytesRead ++ y .bytesWritten) ≡ b → disturbs (touched r) y ≡ b
+  pub write-disturbs : reads r ≡ false → writes r ≡ true → disturbs (touched r) y ≡ (sectors-meet || status-meets)
   unfolding disturbs touched
-  read-rest b k e f =
-      ap (λ (x : Bool). disturbs (touchedBy x (writes r) r) y) k
-      ∙ ap (λ (x : Bool). (x || (someOf (overlap (statusBytes r)) (y .bytesRead ++ y .bytesWritten) || false)) || false) e
-      ∙ or-nothing _
-      ∙ or-nothing _
-      ∙ f
+  write-disturbs e w =
+      ap (λ (b : Bool). disturbs (touchedBy b (writes r) r) y) e
+      ∙ ap (λ (b : Bool). disturbs (touchedBy false b r) y) w
+      ∙ ap (λ (b : Bool). sectors-meet || b) (or-no status-meets)
 
-  status-of : (w : Bool) → someOf (overlap (statusBytes r)) (y .bytesRead ++ y .bytesWritten) ≡ true → disturbs (touchedBy false w r) y ≡ true
-  unfolding disturbs
-  status-of true e = ap (λ (b : Bool). (b || false) || (someOf (overlap (sectors r)) (y .sectorsRead ++ y .sectorsWritten) || false)) e
-  status-of false e = ap (λ (b : Bool). (b || false) || false) e
-
-  pub status-hits : reads r ≡ false → someOf (overlap (statusBytes r)) (y .bytesRead ++ y .bytesWritten) ≡ true → disturbs (touched r) y ≡ true
-  unfolding touched
-  status-hits k e = ap (λ (b : Bool). disturbs (touchedBy b (writes r) r) y) k ∙ status-of (writes r) e
-
-  pub write-rest : (b : Bool) → reads r ≡ false → writes r ≡ true → someOf (overlap (statusBytes r)) (y .bytesRead ++ y .bytesWritten) ≡ false
-      → someOf (overlap (sectors r)) (y .sectorsRead ++ y .sectorsWritten) ≡ b → disturbs (touched r) y ≡ b
+  pub other-disturbs : reads r ≡ false → writes r ≡ false → disturbs (touched r) y ≡ status-meets
   unfolding disturbs touched
-  write-rest b k w e f =
-      ap (λ (x : Bool). disturbs (touchedBy x (writes r) r) y) k
-      ∙ ap (λ (x : Bool). disturbs (touchedBy false x r) y) w
-      ∙ ap (λ (x : Bool). (x || false) || (someOf (overlap (sectors r)) (y .sectorsRead ++ y .sectorsWritten) || false)) e
-      ∙ or-nothing _
-      ∙ f
-
-  pub other-rest : reads r ≡ false → writes r ≡ false → someOf (overlap (statusBytes r)) (y .bytesRead ++ y .bytesWritten) ≡ false → disturbs (touched r) y ≡ false
-  unfolding disturbs touched
-  other-rest k w e =
-      ap (λ (x : Bool). disturbs (touchedBy x (writes r) r) y) k
-      ∙ ap (λ (x : Bool). disturbs (touchedBy false x r) y) w
-      ∙ ap (λ (x : Bool). (x || false) || false) e
+  other-disturbs e w =
+      ap (λ (b : Bool). disturbs (touchedBy b (writes r) r) y) e
+      ∙ ap (λ (b : Bool). disturbs (touchedBy false b r) y) w
+      ∙ or-no status-meets

@@ -1,207 +1,204 @@
--- The loop of a run as written: what the whole comes to is what is left of the budget and of the commands from here, behind the
--- commands that were passed. One law for a turn, and the reply at the end. Assumes nothing.
-use mathlib.Core.Path.{_≡_, refl, sym, ap, ap₂, _∙_}
-use Prim.Native.Nat.{ℕ, _+_, _-_, _≤_, _<_, min}
+-- The loop of a run as written: what the whole comes to is what is left of the budget and of the commands from here, behind the commands
+-- that were passed. One law for a turn, and what is known at the end.
+use mathlib.Core.Path.{_≡_, refl, sym, ap, ap₂, _∙_, subst}
+use Prim.Native.Nat.{ℕ, zero, suc, _+_, _-_, _≤_, _<_, min}
 use native.Mathlib.Nat.{zero-add, add-zero, add-assoc}
 use native.Mathlib.Numerals.{add-one}
 use native.Mathlib.Omega.{arith}
-use mathlib.Core.Bool.{Bool, false}
+use mathlib.Core.Bool.{Bool}
 use mathlib.Core.List.{List, [], _∷_, _++_, append-assoc, append-nil}
 use lib.ListN.{length, getD, take, drop, set, length-set, take-append-drop}
-use lib.Seq.{take-suc-set, drop-set-lt, getD-drop, drop-drop}
-use lib.Dec.{eqb}
+use lib.Seq.{take-suc-set, drop-set-lt, drop-drop}
+use lib.Dec.{leb, eqb}
 use borrow.Author.Tests.{eq-eqb, ne-eqb}
 use Rattle.meaning.specs.declared.Drive.{Drive}
 use Rattle.meaning.specs.declared.Record.{Record}
-use Rattle.meaning.specs.declared.RanWritten.{RanWritten}
-use Rattle.meaning.specs.Sizes.{sizesWrong}
+use Rattle.meaning.specs.Store.{Store, memory, disk, lent}
+use Rattle.meaning.specs.State.{State, stateOf, mostCommands}
 use Rattle.meaning.specs.Command.{remaining, noRecord}
-use Rattle.meaning.specs.Step.{Store}
-use Rattle.meaning.specs.Pick.{badRecord, spoiled}
-use Rattle.meaning.specs.Run.{advanced, stepsDone, Written, written, runNumber, allFinished, writtenLeaves, writtenReply, WrittenGives}
-use Rattle.meaning.proofs.Rows.{pass, stop}
+use Rattle.meaning.specs.Run.{Tally, atStart, advanced, stepsDone, written, asWritten, stepsLeft, allFinished, runNumber}
+use Rattle.meaning.specs.Each.{sumOf}
 use Rattle.meaning.proofs.Loops.{left-at, left-none}
-use Rattle.order.proofs.Numbers.{run-passed}
-use Rattle.order.proofs.Still.{sizes-as-long, bad-as-long}
-use Rattle.order.proofs.Written.{front, written-cons}
-use Rattle.order.proofs.Runs.{written-reply}
-use Rattle.board.proofs.Running.{storeOf}
-use Rattle.board.proofs.Spoiling.{few, good-at}
-
--- a report: its number, the steps, whether all are finished, and the table
-abbrev reported : ℕ → ℕ → Bool → List Record → RanWritten
-reported k steps f t = record { number = k; steps = steps; finished = f; table = t }
-
--- memory and image after a run that gives 0
-written-store : (m i : List ℕ) (d : Drive) (t : List Record) (n b : ℕ) → runNumber m i d t n ≡ 0 → writtenLeaves m i d t n b .store ≡ written d b (take n t) (storeOf m i) .store
-unfolding writtenLeaves
-written-store m i d t n b e = ap (λ (x : Written). x .store) (stop _ _ _ (eq-eqb _ _ e))
+use Rattle.meaning.proofs.Spaces.{AsLong}
+use Rattle.meaning.proofs.Means.{Means, holds, fails, means-le}
+use Rattle.meaning.proofs.Numbers.{Passed, run-passed, none-bad, store-right, most-32}
+use Rattle.meaning.proofs.Counts.{none-left, of-written, smaller}
+use Rattle.meaning.proofs.Still.{store-as-long, bad-as-long}
+use Rattle.board.specs.Changes.{withTaken, tableWith, takenOf}
+use Rattle.board.specs.Ready.{Ready}
+use Rattle.board.proofs.Moving.{ready}
+use Rattle.board.proofs.Taken.{steps-with, length-with, set-with, own-table}
+use Rattle.board.proofs.Runs.{tally}
 
 -- what w comes to, behind `before` records and `steps` steps
-abbrev behind : ℕ → List Record → Written → Written
-behind steps before w = record { steps = steps + w .steps; table = before ++ w .table; store = w .store }
+abbrev behind : ℕ → List Record → Tally → Tally
+behind steps before w = record { steps = steps + w .steps; refused = w .refused; state = record { table = before ++ w .state .table; store = w .state .store } }
 
--- k commands of the first n are passed, from m₀, i₀ and t₀ with budget b; m, i and t are memory, image and table now, and `left` is
--- what is left of the budget
-pub record WrittenLeft (d : Drive) (n b : ℕ) (m₀ i₀ : List ℕ) (t₀ : List Record) (m i : List ℕ) (t : List Record) (left k : ℕ) : Type 0 where
+-- k commands of the first n are passed, from m₀, i₀ and t with budget b; m, i and `taken` are memory, image and the steps taken now, and
+-- `left` is what is left of the budget
+pub record WrittenLeft (d : Drive) (n b : ℕ) (m₀ i₀ : List ℕ) (t : List Record) (m i taken : List ℕ) (left k : ℕ) : Type 0 where
   pub most : k ≤ n
-  pub few-commands : n ≤ 32
   pub within : left ≤ b
   pub memory-length : length m ≡ length m₀
   pub image-length : length i ≡ length i₀
-  pub table-length : length t ≡ 32
-  pub first-length : length t₀ ≡ 32
-  pub sizes : sizesWrong m₀ i₀ d ≡ false
-  pub sound : spoiled m₀ d t₀ n ≡ false
-  pub alone : drop k t ≡ drop k t₀
-  pub still : written d b (take n t₀) (storeOf m₀ i₀) ≡ behind (b - left) (take k t) (written d left (drop k (take n t₀)) (storeOf m i))
+  pub full : length t ≡ mostCommands
+  pub long : length taken ≡ mostCommands
+  pub passed : Passed d n (stateOf m₀ i₀ t)
+  pub alone : drop k (tableWith taken t) ≡ drop k t
+  pub still : written d b (take n t) (lent m₀ i₀) ≡ behind (b - left) (take k (tableWith taken t)) (written d left (drop k (take n t)) (lent m i))
 
-pub written-begin : (d : Drive) (n b : ℕ) (m i : List ℕ) (t : List Record) → length t ≡ 32 → runNumber m i d t n ≡ 0 → WrittenLeft d n b m i t m i t b 0
-written-begin d n b m i t h e =
-    let p = run-passed m i d t n e in
+pub written-begin : (d : Drive) (n b : ℕ) (m i : List ℕ) (t : List Record) (taken : List ℕ) → length t ≡ mostCommands → length taken ≡ mostCommands → taken ≡ takenOf t
+    → runNumber d n (stateOf m i t) ≡ 0 → WrittenLeft d n b m i t m i taken b 0
+written-begin d n b m i t taken h l e z =
+    let same : tableWith taken t ≡ t = ap (λ (ns : List ℕ). tableWith ns t) e ∙ own-table t in
     let none : b - b ≡ 0 = omega arith in
     record {
       most = omega arith;
-      few-commands = few m d t n (p .sound);
       within = omega arith;
       memory-length = refl;
       image-length = refl;
-      table-length = h;
-      first-length = h;
-      sizes = p .sizes;
-      sound = p .sound;
-      alone = refl;
-      still = rw none (λ j. record { steps = sym (zero-add (w .steps)) j; table = w .table; store = w .store });
+      full = h;
+      long = l;
+      passed = run-passed d n (stateOf m i t) z;
+      alone = same;
+      still = rw none (λ j. record { steps = sym (zero-add (w .steps)) j; refused = w .refused; state = w .state });
     }
   where
-    w : Written
-    w = written d b (take n t) (storeOf m i)
+    w : Tally
+    w = written d b (take n t) (lent m i)
 
--- one record more is passed
-front-behind : (steps k : ℕ) (before : List Record) (r : Record) (w : Written) → behind steps before (front k r w) ≡ behind (steps + k) (before ++ advanced k r ∷ []) w
-front-behind steps k before r w =
-    λ j. record { steps = sym (add-assoc steps k (w .steps)) j; table = sym (append-assoc before (advanced k r ∷ []) (w .table)) j; store = w .store }
+-- one command more: c steps of r, and then the rest
+front : (d : Drive) (b : ℕ) (r : Record) (rs : List Record) (s : Store) (c : ℕ) → min b (remaining r) ≡ c
+    → written d b (r ∷ rs) s ≡ behind c (advanced c r ∷ []) (written d (b - c) rs (stepsDone d c r s))
+unfolding written
+front d b r rs s c e = ap (λ (j : ℕ). behind j (advanced j r ∷ []) (written d (b - j) rs (stepsDone d j r s))) e
 
-module _ (d : Drive) (n b : ℕ) (m₀ i₀ : List ℕ) (t₀ : List Record) (m i : List ℕ) (t : List Record) (left k : ℕ) (w : WrittenLeft d n b m₀ i₀ t₀ m i t left k) where
+behind-behind : (a c : ℕ) (before more : List Record) (w : Tally) → behind a before (behind c more w) ≡ behind (a + c) (before ++ more) w
+behind-behind a c before more w =
+    λ j.
+    record {
+      steps = sym (add-assoc a c (w .steps)) j;
+      refused = w .refused;
+      state = record { table = sym (append-assoc before more (w .state .table)) j; store = w .state .store };
+    }
+
+module _ (d : Drive) (n b : ℕ) (m₀ i₀ : List ℕ) (t : List Record) (m i taken : List ℕ) (left k : ℕ) (w : WrittenLeft d n b m₀ i₀ t m i taken left k) where
+  abbrev now-table : List Record
+  now-table = tableWith taken t
+
   abbrev here : Record
   here = getD t k noRecord
 
-  -- the command at k is still as it was at the start
-  untouched : k < n → getD t₀ k noRecord ≡ here
-  untouched h =
-      ap (λ (j : ℕ). getD t₀ j noRecord) (sym (add-zero k))
-      ∙ sym (getD-drop k t₀ 0 noRecord)
-      ∙ ap (λ (l : List Record). getD l 0 noRecord) (sym (w .alone))
-      ∙ getD-drop k t 0 noRecord
-      ∙ ap (λ (j : ℕ). getD t j noRecord) (add-zero k)
+  pub in-use-few : n ≤ mostCommands
+  in-use-few = most-32 d n (stateOf m₀ i₀ t) (w .passed)
 
-  pub sizes-now : sizesWrong m i d ≡ false
-  sizes-now = sizes-as-long m₀ m i₀ i d (w .memory-length) (w .image-length) ∙ w .sizes
+  as-long : AsLong (lent m i) (lent m₀ i₀)
+  as-long memory = w .memory-length
+  as-long (disk zero) = w .image-length
+  as-long (disk (suc u)) = refl
 
-  pub good-now : k < n → badRecord m d here ≡ false
-  good-now h =
-      bad-as-long m₀ m d here (w .memory-length)
-      ∙ sym (ap (badRecord m₀ d) (untouched h))
-      ∙ good-at m₀ d t₀ n k (w .sound) h (omega (arith, w .few-commands, w .first-length))
+  -- the command at k takes c steps
+  module _ (h : k < n) (c : ℕ) (ec : c ≡ min left (remaining here)) where
+    abbrev next-taken : List ℕ
+    next-taken = set taken k (here .taken + c)
 
-  -- the command at k takes c steps, and r is its record then
-  module _ (c : ℕ) (r : Record) (m′ i′ : List ℕ) (h : k < n) (ec : c ≡ min left (remaining here)) (er : r ≡ advanced c here)
-      (es : storeOf m′ i′ ≡ stepsDone d c here (storeOf m i)) where
-    next-command : written d left (drop k (take n t₀)) (storeOf m i) ≡ front c here (written d (left - c) (drop (k + 1) (take n t₀)) (storeOf m′ i′))
-    next-command =
-        ap (λ (rs : List Record). written d left rs (storeOf m i)) (left-at noRecord t₀ n (omega (arith, w .few-commands, w .first-length)) k h)
-        ∙ ap (λ (x : Record). written d left (x ∷ drop (k + 1) (take n t₀)) (storeOf m i)) (untouched h)
-        ∙ written-cons d left here (drop (k + 1) (take n t₀)) (storeOf m i) c (sym ec)
-        ∙ ap (λ (x : Store). front c here (written d (left - c) (drop (k + 1) (take n t₀)) x)) (sym es)
+    pub turn-ready : (c ≤ remaining here) × Ready c here (lent m i)
+    turn-ready =
+        let few : c ≤ remaining here = omega arith in
+        (few, ready d (lent m i) here c (store-as-long d (lent m i) (lent m₀ i₀) as-long ∙ store-right d n (stateOf m₀ i₀ t) (w .passed)) (bad-as-long d (lent m i) (lent m₀ i₀) here as-long ∙ none-bad d n (stateOf m₀ i₀ t) (w .passed) k h) few)
 
-    passed-records : take k t ++ advanced c here ∷ [] ≡ take (k + 1) (set t k r)
-    passed-records =
-        ap (λ (x : Record). take k t ++ x ∷ []) (sym er)
-        ∙ sym (take-suc-set t k r (omega (arith, w .few-commands, w .table-length)))
-        ∙ ap (λ (j : ℕ). take j (set t k r)) (sym (add-one k))
+    module _ (m′ i′ : List ℕ) (es : lent m′ i′ ≡ stepsDone d c here (lent m i)) where
+      next-command : written d left (drop k (take n t)) (lent m i) ≡ behind c (advanced c here ∷ []) (written d (left - c) (drop (k + 1) (take n t)) (lent m′ i′))
+      next-command =
+          let few = in-use-few in
+          ap (λ (rs : List Record). written d left rs (lent m i)) (left-at noRecord t n (omega (arith, w .full)) k h)
+          ∙ front d left here (drop (k + 1) (take n t)) (lent m i) c (sym ec)
+          ∙ ap (λ (x : Store). behind c (advanced c here ∷ []) (written d (left - c) (drop (k + 1) (take n t)) x)) (sym es)
 
-    pub next-turn : length m′ ≡ length m → length i′ ≡ length i → WrittenLeft d n b m₀ i₀ t₀ m′ i′ (set t k r) (left - c) (k + 1)
-    next-turn lm li =
-        let spent : b - left + c ≡ b - (left - c) = omega (arith, ec, w .within) in
-        record {
-          most = omega arith;
-          few-commands = w .few-commands;
-          within = omega (arith, w .within);
-          memory-length = lm ∙ w .memory-length;
-          image-length = li ∙ w .image-length;
-          table-length = length-set t k r ∙ w .table-length;
-          first-length = w .first-length;
-          sizes = w .sizes;
-          sound = w .sound;
-          alone = drop-set-lt (k + 1) t k r (omega arith) ∙ sym (drop-drop 1 k t) ∙ ap (drop 1) (w .alone) ∙ drop-drop 1 k t₀;
-          still =
-              w .still
-              ∙ ap (behind (b - left) (take k t)) next-command
-              ∙ front-behind (b - left) c (take k t) here _
-              ∙ ap₂ (λ (x : ℕ) (rs : List Record). behind x rs (written d (left - c) (drop (k + 1) (take n t₀)) (storeOf m′ i′))) spent passed-records;
-        }
+      table-next : tableWith next-taken t ≡ set now-table k (advanced c here)
+      table-next =
+          let few = in-use-few in
+          set-with taken t k (here .taken + c) (omega (arith, w .long)) ∙ ap (set now-table k) (sym (steps-with c here))
+
+      passed-records : take k now-table ++ advanced c here ∷ [] ≡ take (k + 1) (tableWith next-taken t)
+      passed-records =
+          let few = in-use-few in
+          sym (take-suc-set now-table k (advanced c here) (omega (arith, length-with taken t, w .full)))
+          ∙ ap (λ (j : ℕ). take j (set now-table k (advanced c here))) (sym (add-one k))
+          ∙ ap (take (k + 1)) (sym table-next)
+
+      pub next-turn : length m′ ≡ length m → length i′ ≡ length i → WrittenLeft d n b m₀ i₀ t m′ i′ next-taken (left - c) (k + 1)
+      next-turn lm li =
+          let spent : b - left + c ≡ b - (left - c) = omega (arith, ec, w .within) in
+          record {
+            most = omega arith;
+            within = omega (arith, w .within);
+            memory-length = lm ∙ w .memory-length;
+            image-length = li ∙ w .image-length;
+            full = w .full;
+            long = length-set taken k (here .taken + c) ∙ w .long;
+            passed = w .passed;
+            alone =
+                ap (drop (k + 1)) table-next
+                ∙ drop-set-lt (k + 1) now-table k (advanced c here) (omega arith)
+                ∙ sym (drop-drop 1 k now-table)
+                ∙ ap (drop 1) (w .alone)
+                ∙ drop-drop 1 k t;
+            still =
+                w .still
+                ∙ ap (behind (b - left) (take k now-table)) next-command
+                ∙ behind-behind (b - left) c (take k now-table) (advanced c here ∷ []) _
+                ∙ ap₂ (λ (x : ℕ) (rs : List Record). behind x rs (written d (left - c) (drop (k + 1) (take n t)) (lent m′ i′))) spent passed-records;
+          }
 
   -- every command is passed
   module _ (h : n ≤ k) where
-    abbrev total : Written
-    total = written d b (take n t₀) (storeOf m₀ i₀)
+    abbrev total : Tally
+    total = written d b (take n t) (lent m₀ i₀)
 
-    all-passed : total ≡ behind (b - left) (take k t) (record { steps = 0; table = []; store = storeOf m i })
+    all-passed : total ≡ behind (b - left) (take k now-table) (atStart (record { table = []; store = lent m i }))
     unfolding written
     all-passed =
+        let few = in-use-few in
         w .still
-        ∙ ap (λ (rs : List Record). behind (b - left) (take k t) (written d left rs (storeOf m i)))
-        (left-none noRecord t₀ n (omega (arith, w .few-commands, w .first-length)) k h)
+        ∙ ap (λ (rs : List Record). behind (b - left) (take k now-table) (written d left rs (lent m i))) (left-none noRecord t n (omega (arith, w .full)) k h)
 
     at-end : k ≡ n
     at-end = omega (arith, w .most)
 
     steps-are : total .steps ≡ b - left
-    steps-are = ap (λ (x : Written). x .steps) all-passed ∙ add-zero (b - left)
+    steps-are = ap (λ (x : Tally). x .steps) all-passed ∙ add-zero (b - left)
 
-    table-is : total .table ++ drop n t₀ ≡ t
+    first-records : total .state .table ≡ take n now-table
+    first-records = ap (λ (x : Tally). x .state .table) all-passed ∙ append-nil (take k now-table) ∙ ap (λ (j : ℕ). take j now-table) at-end
+
+    table-is : total .state .table ++ drop n t ≡ now-table
     table-is =
-        ap (λ (x : Written). x .table ++ drop n t₀) all-passed
-        ∙ ap (λ (rs : List Record). rs ++ drop n t₀) (append-nil (take k t))
-        ∙ ap (λ (j : ℕ). take j t ++ drop n t₀) at-end
-        ∙ ap (λ (rs : List Record). take n t ++ rs) (sym (rw at-end at (w .alone)))
-        ∙ take-append-drop n t
+        ap (λ (rs : List Record). rs ++ drop n t) first-records
+        ∙ ap (λ (rs : List Record). take n now-table ++ rs) (ap (λ (j : ℕ). drop j t) (sym at-end) ∙ sym (w .alone) ∙ ap (λ (j : ℕ). drop j now-table) at-end)
+        ∙ take-append-drop n now-table
 
-    pub written-end : (f : Bool) → runNumber m₀ i₀ d t₀ n ≡ 0 → f ≡ allFinished t n
-        → WrittenGives m₀ i₀ d t₀ n b (record { number = 0; steps = b - left; finished = f; table = t }) m i
-    unfolding WrittenGives
-    written-end f e ef =
-        let store-is = written-store m₀ i₀ d t₀ n b e ∙ ap (λ (x : Written). x .store) all-passed in (
-          ap (λ (x : Bool). reported 0 (b - left) x t) ef
-              ∙ sym (written-reply m₀ i₀ d t₀ n e b ∙ ap₂ (λ (x : ℕ) (u : List Record). reported 0 x (allFinished u n) u) steps-are table-is),
-          sym (ap (λ (x : Store). x .memory) store-is),
-          sym (ap (λ (x : Store). x .image) store-is),
+    pub all-written : asWritten d n b (stateOf m₀ i₀ t) ≡ tally (b - left) 0 (stateOf m i now-table)
+    unfolding asWritten
+    all-written =
+        λ j.
+        record {
+          steps = steps-are j;
+          refused = all-passed j .refused;
+          state = record { table = table-is j; store = all-passed j .state .store };
+        }
+
+    -- all commands are finished where the budget was enough
+    pub finished-by-budget : leb (stepsLeft t n) b ≡ allFinished now-table n
+    unfolding stepsLeft
+    finished-by-budget = go (means-le (sumOf remaining (take n t)) b) ∙ sym (none-left now-table n)
+      where
+        counts : (b - left + sumOf remaining (take n now-table) ≡ sumOf remaining (take n t)) × (b - left ≡ min b (sumOf remaining (take n t)))
+        counts = (
+          ap₂ (λ (x : ℕ) (rs : List Record). x + sumOf remaining rs) (sym steps-are) (sym first-records) ∙ of-written d b (take n t) (lent m₀ i₀),
+          sym steps-are ∙ smaller d b (take n t) (lent m₀ i₀),
         )
 
--- the run is refused, with number 1 or 9
-module _ (m i : List ℕ) (d : Drive) (t : List Record) (n b : ℕ) (nonzero : eqb (runNumber m i d t n) 0 ≡ false) where
-  leaves-nothing : writtenLeaves m i d t n b ≡ record { steps = 0; table = t; store = storeOf m i }
-  unfolding writtenLeaves
-  leaves-nothing = pass _ _ _ nonzero
-
-  refused-reply : writtenReply m i d t n b ≡ reported (runNumber m i d t n) 0 false t
-  unfolding writtenReply
-  refused-reply =
-      λ j.
-      record {
-        number = runNumber m i d t n;
-        steps = leaves-nothing j .steps;
-        finished = pass (eqb (runNumber m i d t n) 0) (allFinished (writtenLeaves m i d t n b .table) n) false nonzero j;
-        table = leaves-nothing j .table;
-      }
-
-pub written-gives-nothing : (m i : List ℕ) (d : Drive) (t : List Record) (n b k : ℕ) → k ≡ runNumber m i d t n → (k ≡ 0 → ⊥)
-    → WrittenGives m i d t n b (record { number = k; steps = 0; finished = false; table = t }) m i
-unfolding WrittenGives
-written-gives-nothing m i d t n b k e h =
-    let nonzero = ne-eqb (runNumber m i d t n) 0 (λ q. h (e ∙ q)) in
-    let leave = leaves-nothing m i d t n b nonzero in (
-      ap (λ (x : ℕ). reported x 0 false t) e ∙ sym (refused-reply m i d t n b nonzero),
-      sym (ap (λ (x : Written). x .store .memory) leave),
-      sym (ap (λ (x : Written). x .store .image) leave),
-    )
+        go : {x : Bool} → Means (sumOf remaining (take n t) ≤ b) x → x ≡ eqb (sumOf remaining (take n now-table)) 0
+        go (holds e) = sym (eq-eqb (sumOf remaining (take n now-table)) 0 (let q = counts in omega arith))
+        go (fails f) = sym (ne-eqb (sumOf remaining (take n now-table)) 0 (λ e. let q = counts in f (omega arith)))

@@ -2,6 +2,7 @@
 use meaning::Record;
 ghost use mathlib.Core.Path.{_≡_};
 ghost use Rattle.meaning.specs.Command as command;
+ghost use Rattle.board.specs.Changes.{withTaken};
 
 // A Read Data with code 00.
 pub fn reads(r: Record) -> bool
@@ -55,4 +56,13 @@ pub fn remaining(r: Record) -> u32
     let steps = steps_of(r);
     let taken = r.taken;
     if taken < steps { steps - taken } else { 0 }
+}
+
+// The same command with so many steps taken.
+pub fn with_taken(r: Record, taken: u32) -> Record
+    ensures { λ s. ⌜ s ≡ withTaken taken r ⌝ }
+{
+    let mut s = r;
+    s.taken = taken;
+    s
 }

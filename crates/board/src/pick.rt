@@ -1,30 +1,68 @@
-// A pick: 01's numbers 1, 9, 8, 7, 6, 0 in that order, and on 0 one step at its place.
+// A pick: the numbers 1, 9, 8, 7, 6, 0 in that order (Pick 2 to 7), and on 0 one step at its place. What a pick changes is one record, so
+// beneath its two faces, the table by value and the lent one, it hands back that record and not the table.
+use crate::RECORDS;
 use crate::command;
 use crate::step;
 use crate::touch;
 use chain::sizes;
 use meaning::Drive;
-use meaning::Picked;
+use meaning::PickedTable;
 use meaning::Record;
 ghost use mathlib.Core.Path.{_≡_};
-ghost use mathlib.Core.Bool.{not, _&&_};
-ghost use Prim.Native.Nat.{_≤_};
+ghost use mathlib.Core.Bool.{not, _&&_, _||_};
+ghost use mathlib.Core.List.{[]};
+ghost use lib.Dec.{ltb};
+ghost use Rattle.meaning.specs.Store.{lent};
+ghost use Rattle.meaning.specs.State.{stateOf, mostCommands};
+ghost use Rattle.meaning.specs.Sizes.{storeWrong};
 ghost use Rattle.meaning.specs.Command.{finished};
 ghost use Rattle.meaning.specs.Touch.{conflict};
 ghost use Rattle.meaning.specs.Pick as pick;
+ghost use Rattle.board.specs.Changes.{PickChanges, refusedPick};
 
-// A code 00 transfer with count zero, with data or sectors outside memory or drive, or writing to a protected drive.
+// What a pick answers and changes: its number, and on 0 the record at its place after its step. On a refusal the record is all zeros.
+pub struct PickedRecord {
+    pub number: u8,
+    pub after: Record,
+}
+
+// A refusal: nothing is changed.
+fn refused(number: u8) -> PickedRecord
+    ensures { λ r. ⌜ r ≡ refusedPick number ⌝ }
+{
+    let after = Record {
+        iopb: 0,
+        address: 0,
+        sector: 0,
+        taken: 0,
+        count: 0,
+        byte0: 0,
+        code: 0,
+    };
+    PickedRecord { number, after }
+}
+
+// Number 1: memory or image of a wrong size, or a table of so many records that is too short.
+pub(crate) fn sizes_wrong(memory: &[u8], image: &[u8], d: Drive, length: usize) -> bool
+    ensures { λ b. ⌜ b ≡ (storeWrong d (lent (now (memory .entry)) (now (image .entry))) || ltb length mostCommands) ⌝ }
+{
+    if sizes::sizes_wrong(memory, image, d) {
+        return true;
+    }
+    length < RECORDS
+}
+
+// A transfer with count zero, with data or sectors outside memory or drive, or writing to a protected drive (Spoiled 4 to 7).
 fn bad_transfer(memory: &[u8], d: Drive, r: Record) -> bool
-    ensures { λ b. ⌜ b ≡ pick.badTransfer (now (memory .entry)) d r ⌝ }
+    ensures { λ b. ⌜ b ≡ pick.badTransfer d (lent (now (memory .entry)) []) r ⌝ }
 {
     if r.count == 0 {
         return true;
     }
-    if (memory.len() as u64) < r.address as u64 + 512 * r.count as u64 {
+    if (memory.len() as u64) < r.address as u64 + drive::SECTOR_BYTES * r.count as u64 {
         return true;
     }
-    let count = drive::sectors(d).0;
-    if count < r.sector as u64 + r.count as u64 {
+    if drive::past_end(drive::sectors(d), r.sector, r.count) {
         return true;
     }
     if command::writes(r) {
@@ -33,9 +71,9 @@ fn bad_transfer(memory: &[u8], d: Drive, r: Record) -> bool
     false
 }
 
-// A record that no table in use may hold.
-fn bad_record(memory: &[u8], d: Drive, r: Record) -> bool
-    ensures { λ b. ⌜ b ≡ pick.badRecord (now (memory .entry)) d r ⌝ }
+// A record that no table in use may hold (Spoiled 2 to 7).
+pub(crate) fn bad_record(memory: &[u8], d: Drive, r: Record) -> bool
+    ensures { λ b. ⌜ b ≡ pick.badRecord d (lent (now (memory .entry)) []) r ⌝ }
 {
     if !iopb::all_in(memory, r.iopb) {
         return true;
@@ -50,24 +88,7 @@ fn bad_record(memory: &[u8], d: Drive, r: Record) -> bool
     false
 }
 
-// The table has over 32 commands, or a record in use is bad.
-pub fn spoiled(memory: &[u8], d: Drive, table: [Record; 32], commands: usize) -> bool
-    ensures { λ b. ⌜ b ≡ pick.spoiled (now (memory .entry)) d table commands ⌝ }
-{
-    if 32 < commands {
-        return true;
-    }
-    let mut k = 0;
-    while k < commands {
-        if bad_record(memory, d, table[k]) {
-            return true;
-        }
-        k += 1;
-    }
-    false
-}
-
-// An earlier command e is unfinished and conflicts with r.
+// An earlier command e is unfinished and conflicts with r (Pick 6).
 pub(crate) fn blocks(e: Record, r: Record) -> bool
     ensures { λ b. ⌜ b ≡ (not (finished e) && conflict e r) ⌝ }
 {
@@ -77,50 +98,54 @@ pub(crate) fn blocks(e: Record, r: Record) -> bool
     touch::conflict(e, r)
 }
 
-// The number of a pick on a table that passed 1 and 9: no such place, finished, waiting (an earlier unfinished command conflicts with
-// it), or 0.
-fn place_number(table: [Record; 32], commands: usize, place: usize) -> u8
-    requires { ⌜ commands ≤ 32 ⌝ }
-    ensures { λ n. ⌜ n ≡ pick.placeNumber table commands place ⌝ }
+// A pick beneath both faces: `length` is how many records the caller's table has, of which these are the first. Both loops that read the
+// table stand here, since a table that is passed on is copied.
+pub fn pick_record(
+    memory: &mut [u8],
+    image: &mut [u8],
+    d: Drive,
+    table: [Record; 32],
+    length: usize,
+    commands: usize,
+    place: usize,
+) -> PickedRecord
+    ensures { λ r. ⌜ PickChanges d commands place length (stateOf (now (memory .entry)) (now (image .entry)) table) r (lent (now (memory .exit)) (now (image .exit))) ⌝ }
 {
-    if commands <= place {
-        return 8;
+    if sizes_wrong(memory, image, d, length) {
+        return refused(1);
     }
-    let r = table[place];
-    if command::finished(r) {
-        return 7;
+    if RECORDS < commands {
+        return refused(9);
     }
     let mut k = 0;
-    while k < place {
-        if blocks(table[k], r) {
-            return 6;
+    while k < commands {
+        if bad_record(memory, d, table[k]) {
+            return refused(9);
         }
         k += 1;
     }
-    0
+    if commands <= place {
+        return refused(8);
+    }
+    let r = table[place];
+    if command::finished(r) {
+        return refused(7);
+    }
+    let mut earlier = 0;
+    while earlier < place {
+        if blocks(table[earlier], r) {
+            return refused(6);
+        }
+        earlier += 1;
+    }
+    step::take_steps(memory, image, d, r, 1);
+    PickedRecord {
+        number: 0,
+        after: command::with_taken(r, r.taken + 1),
+    }
 }
 
-// The number of a pick: 01's rows in their order.
-fn pick_number(
-    memory: &[u8],
-    image: &[u8],
-    d: Drive,
-    table: [Record; 32],
-    commands: usize,
-    place: usize,
-) -> u8
-    ensures { λ n. ⌜ n ≡ pick.pickNumber (now (memory .entry)) (now (image .entry)) d table commands place ⌝ }
-{
-    if sizes::sizes_wrong(memory, image, d) {
-        return 1;
-    }
-    if spoiled(memory, d, table, commands) {
-        return 9;
-    }
-    place_number(table, commands, place)
-}
-
-// A pick: its number, and on 0 one step at its place; on any other number nothing is changed.
+// A pick on a table by value: on 0 one step at its place; on any other number nothing is changed.
 pub fn pick(
     memory: &mut [u8],
     image: &mut [u8],
@@ -128,18 +153,17 @@ pub fn pick(
     table: [Record; 32],
     commands: usize,
     place: usize,
-) -> Picked
-    ensures { λ r. ⌜ pick.PickGives (now (memory .entry)) (now (image .entry)) d table commands place r (now (memory .exit)) (now (image .exit)) ⌝ }
+) -> PickedTable
+    ensures { λ r. ⌜ pick.PickGives d commands place (stateOf (now (memory .entry)) (now (image .entry)) table) (r .number) (stateOf (now (memory .exit)) (now (image .exit)) (r .table)) ⌝ }
 {
-    let number = pick_number(memory, image, d, table, commands, place);
+    let picked = pick_record(memory, image, d, table, RECORDS, commands, place);
+    let stepped = picked.after;
     let mut after = table;
-    if number == 0 {
-        let r = table[place];
-        step::take_step(memory, image, d, r);
-        after[place] = step::stepped(r);
+    if picked.number == 0 {
+        after[place] = stepped;
     }
-    Picked {
-        number,
+    PickedTable {
+        number: picked.number,
         table: after,
     }
 }

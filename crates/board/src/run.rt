@@ -1,58 +1,90 @@
-// The two runs: by a lent list of picks, and as written within a step budget. Sizes and spoiled tables are tested once, before
-// anything moves.
+// The two runs: by a lent list of picks, and as written within a step budget. Numbers 1 and 9 are tested once, before anything moves
+// (Run 8). What a run changes is the steps taken, so beneath its two faces it hands back those and not the table.
+use crate::RECORDS;
 use crate::command;
 use crate::pick;
 use crate::step;
-use chain::sizes;
 use meaning::Drive;
-use meaning::RanPicks;
-use meaning::RanWritten;
+use meaning::Ran;
+use meaning::RanTable;
 use meaning::Record;
 ghost use mathlib.Core.Path.{_≡_};
-ghost use mathlib.Core.Bool.{false};
-ghost use Prim.Native.Nat.{_≤_, min};
+ghost use mathlib.Core.Bool.{Bool, _&&_, _||_, cond};
+ghost use Prim.Native.Nat.{_+_, _*_, _≤_, min};
 ghost use mathlib.Core.List.{[]};
-ghost use Rattle.meaning.specs.Sizes.{sizesWrong};
-ghost use Rattle.meaning.specs.Command.{remaining};
-ghost use Rattle.meaning.specs.Pick.{badRecord, stateOf};
+ghost use Rattle.meaning.specs.Store.{lent};
+ghost use Rattle.meaning.specs.State.{stateOf};
 ghost use Rattle.meaning.specs.Run as run;
+ghost use Rattle.board.specs.Changes.{RunTakes, refusedRun, tableWith};
+ghost use Rattle.board.specs.Opening.{seenWith, firstNumber};
+
+// What a run answers and changes: its answer, and the steps taken of each of the 32 records after it, as they were on a refusal.
+pub struct RanTaken {
+    pub ran: Ran,
+    pub taken: [u32; 32],
+}
+
+// What a run sees of the records in use before it begins: whether one is bad, and the steps that are left of them.
+pub struct Seen {
+    pub left: u64,
+    pub spoiled: bool,
+}
+
+// One record more is seen; one that is not in use changes nothing.
+fn with_record(seen: Seen, memory: &[u8], d: Drive, r: Record, in_use: bool) -> Seen
+    requires { ⌜ seen .left ≤ 4_294_967_296 * 4_294_967_295 ⌝ }
+    ensures { λ s. ⌜ s ≡ seenWith d (lent (now (memory .entry)) []) in_use r seen ⌝ }
+    ensures within { λ s. ⌜ s .left ≤ seen .left + 4_294_967_295 ⌝ }
+{
+    if !in_use {
+        return seen;
+    }
+    let left = seen.left + command::remaining(r) as u64;
+    if seen.spoiled {
+        return Seen {
+            left,
+            spoiled: true,
+        };
+    }
+    Seen {
+        left,
+        spoiled: pick::bad_record(memory, d, r),
+    }
+}
 
 // Numbers 1 and 9, which both runs test first.
-fn run_number(memory: &[u8], image: &[u8], d: Drive, table: [Record; 32], commands: usize) -> u8
-    ensures { λ n. ⌜ n ≡ run.runNumber (now (memory .entry)) (now (image .entry)) d table commands ⌝ }
+fn first_number(memory: &[u8], image: &[u8], d: Drive, length: usize, spoiled: bool) -> u8
+    ensures { λ n. ⌜ n ≡ firstNumber d length spoiled (lent (now (memory .entry)) (now (image .entry))) ⌝ }
 {
-    if sizes::sizes_wrong(memory, image, d) {
+    if pick::sizes_wrong(memory, image, d, length) {
         return 1;
     }
-    if pick::spoiled(memory, d, table, commands) {
+    if spoiled {
         return 9;
     }
     0
 }
 
-// All commands are finished.
-fn all_finished(table: [Record; 32], commands: usize) -> bool
-    requires { ⌜ commands ≤ 32 ⌝ }
-    ensures { λ b. ⌜ b ≡ run.allFinished table commands ⌝ }
+// A refusal: zero counts and "not finished".
+fn refused(number: u8) -> Ran
+    ensures { λ r. ⌜ r ≡ refusedRun number ⌝ }
 {
-    let mut k = 0;
-    while k < commands {
-        if !command::finished(table[k]) {
-            return false;
-        }
-        k += 1;
+    Ran {
+        steps: 0,
+        refused: 0,
+        number,
+        finished: false,
     }
-    true
 }
 
 // How many records a number of commands can mean: a table holds 32 and no more.
 fn in_table(commands: usize) -> usize
     ensures { λ n. ⌜ n ≡ min commands 32 ⌝ }
 {
-    if commands < 32 { commands } else { 32 }
+    if commands < RECORDS { commands } else { RECORDS }
 }
 
-// The steps of a chain, from its start: the sum of the steps of its commands.
+// The steps of a chain, from its start: the sum of the steps of its commands (Run 6).
 pub fn chain_steps(table: [Record; 32], commands: usize) -> u64
     ensures { λ n. ⌜ n ≡ run.chainSteps table commands ⌝ }
 {
@@ -66,23 +98,6 @@ pub fn chain_steps(table: [Record; 32], commands: usize) -> u64
     sum
 }
 
-// n steps of one command, one after another, with its record in hand; it hands back the record after them.
-fn take_steps(memory: &mut [u8], image: &mut [u8], d: Drive, r: Record, n: u32) -> Record
-    requires { ⌜ (sizesWrong (now memory) (now image) d ≡ false) × (badRecord (now memory) d r ≡ false) × (n ≤ remaining r) ⌝ }
-    ensures { λ s. ⌜ s ≡ run.advanced n r ⌝ }
-    ensures { λ _. ⌜ now (memory .exit) ≡ run.stepsDone d n r (stateOf (now (memory .entry)) (now (image .entry)) [] .store) .memory ⌝ }
-    ensures { λ _. ⌜ now (image .exit) ≡ run.stepsDone d n r (stateOf (now (memory .entry)) (now (image .entry)) [] .store) .image ⌝ }
-{
-    let mut here = r;
-    let mut k = 0;
-    while k < n {
-        step::take_step(memory, image, d, here);
-        here = step::stepped(here);
-        k += 1;
-    }
-    here
-}
-
 // The smaller of what is left of a budget and what is left of a command.
 fn fewer(budget: u64, left: u32) -> u32
     ensures { λ n. ⌜ n ≡ min budget left ⌝ }
@@ -94,7 +109,143 @@ fn fewer(budget: u64, left: u32) -> u32
     }
 }
 
-// A run by picks: a refused pick is passed over, and counted. On 1 and 9 nothing is changed.
+// A run by picks beneath both faces: `length` is how many records the caller's table has, of which these are the first. All loops that
+// read the table stand here, since a table that is passed on is copied. What two commands touch does not change with their steps, and a
+// command only ever comes nearer to its end: an earlier command that once did not block a place never blocks it again. So the search of
+// a pick goes on where the last one at its place stopped: `searched` holds how many earlier commands are known not to block it.
+pub fn picks_taken(
+    memory: &mut [u8],
+    image: &mut [u8],
+    d: Drive,
+    table: [Record; 32],
+    length: usize,
+    commands: usize,
+    picks: &[u8],
+) -> RanTaken
+    ensures { λ r. ⌜ RunTakes d commands (run.byPicks d commands (now (picks .entry))) length (stateOf (now (memory .entry)) (now (image .entry)) table) r (lent (now (memory .exit)) (now (image .exit))) ⌝ }
+{
+    let mut taken = [0u32; 32];
+    let mut seen = Seen {
+        left: 0,
+        spoiled: RECORDS < commands,
+    };
+    let mut k = 0;
+    while k < RECORDS {
+        let r = table[k];
+        taken[k] = r.taken;
+        seen = with_record(seen, memory, d, r, k < commands);
+        k += 1;
+    }
+    let number = first_number(memory, image, d, length, seen.spoiled);
+    if number != 0 {
+        return RanTaken {
+            ran: refused(number),
+            taken,
+        };
+    }
+    let mut searched = [0usize; 32];
+    let mut steps: u64 = 0;
+    let mut passed: u64 = 0;
+    let mut next = 0;
+    'picks: while next < picks.len() {
+        let place = picks[next] as usize;
+        next += 1;
+        if commands <= place {
+            passed += 1;
+            continue;
+        }
+        let r = command::with_taken(table[place], taken[place]);
+        if command::finished(r) {
+            passed += 1;
+            continue;
+        }
+        let mut earlier = searched[place];
+        while earlier < place {
+            if pick::blocks(command::with_taken(table[earlier], taken[earlier]), r) {
+                searched[place] = earlier;
+                passed += 1;
+                continue 'picks;
+            }
+            earlier += 1;
+        }
+        searched[place] = earlier;
+        step::take_steps(memory, image, d, r, 1);
+        taken[place] = r.taken + 1;
+        steps += 1;
+    }
+    let ran = Ran {
+        steps,
+        refused: passed,
+        number: 0,
+        finished: steps == seen.left,
+    };
+    RanTaken { ran, taken }
+}
+
+// A run as written beneath both faces: each command in turn as far as the budget goes, always the earliest unfinished one (Run 5).
+pub fn written_taken(
+    memory: &mut [u8],
+    image: &mut [u8],
+    d: Drive,
+    table: [Record; 32],
+    length: usize,
+    commands: usize,
+    budget: u64,
+) -> RanTaken
+    ensures { λ r. ⌜ RunTakes d commands (run.asWritten d commands budget) length (stateOf (now (memory .entry)) (now (image .entry)) table) r (lent (now (memory .exit)) (now (image .exit))) ⌝ }
+{
+    let mut taken = [0u32; 32];
+    let mut seen = Seen {
+        left: 0,
+        spoiled: RECORDS < commands,
+    };
+    let mut k = 0;
+    while k < RECORDS {
+        let r = table[k];
+        taken[k] = r.taken;
+        seen = with_record(seen, memory, d, r, k < commands);
+        k += 1;
+    }
+    let number = first_number(memory, image, d, length, seen.spoiled);
+    if number != 0 {
+        return RanTaken {
+            ran: refused(number),
+            taken,
+        };
+    }
+    let mut left = budget;
+    let mut at = 0;
+    while at < commands {
+        let r = table[at];
+        let n = fewer(left, command::remaining(r));
+        step::take_steps(memory, image, d, r, n);
+        taken[at] = r.taken + n;
+        left -= n as u64;
+        at += 1;
+    }
+    let ran = Ran {
+        steps: budget - left,
+        refused: 0,
+        number: 0,
+        finished: seen.left <= budget,
+    };
+    RanTaken { ran, taken }
+}
+
+// The table with these steps taken.
+fn table_with(table: [Record; 32], taken: [u32; 32]) -> [Record; 32]
+    ensures { λ t. ⌜ t ≡ tableWith taken table ⌝ }
+{
+    let mut after = table;
+    let mut k = 0;
+    while k < RECORDS {
+        after[k] = command::with_taken(after[k], taken[k]);
+        k += 1;
+    }
+    after
+}
+
+// A run by picks on a table by value: a refused pick is passed over, and counted. On 1 and 9 nothing is changed.
 pub fn run_picks(
     memory: &mut [u8],
     image: &mut [u8],
@@ -102,74 +253,19 @@ pub fn run_picks(
     table: [Record; 32],
     commands: usize,
     picks: &[u8],
-) -> RanPicks
-    ensures { λ r. ⌜ run.PicksGive (now (memory .entry)) (now (image .entry)) d table commands (now (picks .entry)) r (now (memory .exit)) (now (image .exit)) ⌝ }
+) -> RanTable
+    ensures { λ r. ⌜ run.RunGives d commands (run.byPicks d commands (now (picks .entry))) (stateOf (now (memory .entry)) (now (image .entry)) table) (r .ran) (stateOf (now (memory .exit)) (now (image .exit)) (r .table)) ⌝ }
 {
-    let number = run_number(memory, image, d, table, commands);
-    if number != 0 {
-        return RanPicks {
-            number,
-            steps: 0,
-            refused: 0,
-            finished: false,
-            table,
-        };
-    }
-    take_picks(memory, image, d, table, commands, picks)
-}
-
-// The picks of a run that passed 1 and 9, one after another. The search for an earlier command that blocks stands in this loop, and
-// not in a function of its own: a table passed by value is copied, and no table is copied for a pick.
-fn take_picks(
-    memory: &mut [u8],
-    image: &mut [u8],
-    d: Drive,
-    table: [Record; 32],
-    commands: usize,
-    picks: &[u8],
-) -> RanPicks
-    requires { ⌜ run.runNumber (now memory) (now image) d table commands ≡ 0 ⌝ }
-    ensures { λ r. ⌜ run.PicksGive (now (memory .entry)) (now (image .entry)) d table commands (now (picks .entry)) r (now (memory .exit)) (now (image .exit)) ⌝ }
-{
-    let mut after = table;
-    let mut steps: usize = 0;
-    let mut refused: usize = 0;
-    let mut k = 0;
-    'picks: while k < picks.len() {
-        let place = picks[k] as usize;
-        k += 1;
-        if commands <= place {
-            refused += 1;
-            continue;
-        }
-        let r = after[place];
-        if command::finished(r) {
-            refused += 1;
-            continue;
-        }
-        let mut earlier = 0;
-        while earlier < place {
-            if pick::blocks(after[earlier], r) {
-                refused += 1;
-                continue 'picks;
-            }
-            earlier += 1;
-        }
-        step::take_step(memory, image, d, r);
-        after[place] = step::stepped(r);
-        steps += 1;
-    }
-    let finished = all_finished(after, commands);
-    RanPicks {
-        number: 0,
-        steps,
-        refused,
-        finished,
-        table: after,
+    let r = picks_taken(memory, image, d, table, RECORDS, commands, picks);
+    let ran = r.ran;
+    let taken = r.taken;
+    RanTable {
+        ran,
+        table: table_with(table, taken),
     }
 }
 
-// A run as written within a step budget: always the earliest unfinished command. On 1 and 9 nothing is changed.
+// A run as written on a table by value, within a step budget. On 1 and 9 nothing is changed.
 pub fn run_written(
     memory: &mut [u8],
     image: &mut [u8],
@@ -177,47 +273,14 @@ pub fn run_written(
     table: [Record; 32],
     commands: usize,
     budget: u64,
-) -> RanWritten
-    ensures { λ r. ⌜ run.WrittenGives (now (memory .entry)) (now (image .entry)) d table commands budget r (now (memory .exit)) (now (image .exit)) ⌝ }
+) -> RanTable
+    ensures { λ r. ⌜ run.RunGives d commands (run.asWritten d commands budget) (stateOf (now (memory .entry)) (now (image .entry)) table) (r .ran) (stateOf (now (memory .exit)) (now (image .exit)) (r .table)) ⌝ }
 {
-    let number = run_number(memory, image, d, table, commands);
-    if number != 0 {
-        return RanWritten {
-            number,
-            steps: 0,
-            finished: false,
-            table,
-        };
-    }
-    take_written(memory, image, d, table, commands, budget)
-}
-
-// The commands of a run that passed 1 and 9, each in turn as far as the budget goes; a record is stored once.
-fn take_written(
-    memory: &mut [u8],
-    image: &mut [u8],
-    d: Drive,
-    table: [Record; 32],
-    commands: usize,
-    budget: u64,
-) -> RanWritten
-    requires { ⌜ run.runNumber (now memory) (now image) d table commands ≡ 0 ⌝ }
-    ensures { λ r. ⌜ run.WrittenGives (now (memory .entry)) (now (image .entry)) d table commands budget r (now (memory .exit)) (now (image .exit)) ⌝ }
-{
-    let mut after = table;
-    let mut left = budget;
-    let mut k = 0;
-    while k < commands {
-        let r = after[k];
-        let n = fewer(left, command::remaining(r));
-        after[k] = take_steps(memory, image, d, r, n);
-        left -= n as u64;
-        k += 1;
-    }
-    RanWritten {
-        number: 0,
-        steps: budget - left,
-        finished: all_finished(after, commands),
-        table: after,
+    let r = written_taken(memory, image, d, table, RECORDS, commands, budget);
+    let ran = r.ran;
+    let taken = r.taken;
+    RanTable {
+        ran,
+        table: table_with(table, taken),
     }
 }

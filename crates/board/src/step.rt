@@ -1,29 +1,34 @@
-// One step of a command: its next sector moves between memory and image, and the last step closes the command.
+// Steps of a command, one or several at once: its sectors move between memory and image, and the last step closes the command. Sectors
+// that follow each other lie side by side in both, so several go as one copy.
 use crate::command;
 use meaning::Drive;
 use meaning::Record;
 ghost use mathlib.Core.Path.{_≡_};
 ghost use Prim.Native.Nat.{_+_, _≤_};
-ghost use mathlib.Core.Bool.{cond, false};
+ghost use mathlib.Core.Bool.{cond};
 ghost use lib.ListN.{length, take, drop};
 ghost use lib.Seq.{sets};
-ghost use Rattle.meaning.specs.Command.{finished};
+ghost use Rattle.meaning.specs.Store.{lent};
+ghost use Rattle.meaning.specs.Command.{remaining};
 ghost use Rattle.meaning.specs.Step as step;
-ghost use Rattle.meaning.specs.Pick.{stateOf};
-ghost use mathlib.Core.List.{[]};
+ghost use Rattle.meaning.specs.Run.{stepsDone};
 ghost use Rattle.board.specs.Ready.{Ready};
+ghost use Rattle.board.specs.Moved.{sectorsMoved};
 
-// The 512 bytes of src from `from` on go to dst from `to` on.
-fn copy_sector(src: &[u8], from: usize, dst: &mut [u8], to: usize)
-    requires { ⌜ (from + 512 ≤ length (now src)) × (to + 512 ≤ length (now dst)) ⌝ }
-    ensures { λ _. ⌜ now (dst .exit) ≡ sets (now (dst .entry)) to (take 512 (drop from (now (src .entry)))) ⌝ }
+// The bytes of a sector, as a place in memory or image counts them.
+const SECTOR_BYTES: usize = drive::SECTOR_BYTES as usize;
+
+// So many bytes of src from `from` on go to dst from `to` on.
+fn copy_part(src: &[u8], from: usize, dst: &mut [u8], to: usize, size: usize)
+    requires { ⌜ (from + size ≤ length (now src)) × (to + size ≤ length (now dst)) ⌝ }
+    ensures { λ _. ⌜ now (dst .exit) ≡ sets (now (dst .entry)) to (take size (drop from (now (src .entry)))) ⌝ }
 {
-    let from_end = from + 512;
-    let to_end = to + 512;
+    let from_end = from + size;
+    let to_end = to + size;
     bytes::copy(&src[from..from_end], &mut dst[to..to_end]);
 }
 
-// The close: bytes 0 to 3 of the command's own IOPB, from the copied byte 0.
+// The close: bytes 0 to 3 of the command's own IOPB, byte 0 from the copied one.
 fn close(memory: &mut [u8], d: Drive, r: Record)
     requires { ⌜ r .iopb + 4 ≤ length (now memory) ⌝ }
     ensures { λ _. ⌜ now (memory .exit) ≡ sets (now (memory .entry)) (r .iopb) (step.closing d r) ⌝ }
@@ -50,44 +55,35 @@ fn drive_status(d: Drive) -> u8
     if d.protected { 0x13 } else { 0x03 }
 }
 
-// The sector of the next step moves between memory and image; a command that is no transfer moves none.
-fn move_sector(memory: &mut [u8], image: &mut [u8], r: Record)
-    requires { ⌜ Ready (now memory) (now image) r ⌝ }
-    ensures { λ _. ⌜ now (memory .exit) ≡ step.moves (step.sectorMove r (r .taken)) (stateOf (now (memory .entry)) (now (image .entry)) [] .store) .memory ⌝ }
-    ensures { λ _. ⌜ now (image .exit) ≡ step.moves (step.sectorMove r (r .taken)) (stateOf (now (memory .entry)) (now (image .entry)) [] .store) .image ⌝ }
+// The sectors of the next n steps move between memory and image; a command that is no transfer moves none.
+fn move_sectors(memory: &mut [u8], image: &mut [u8], r: Record, n: u32)
+    requires { ⌜ (1 ≤ n) × Ready n r (lent (now memory) (now image)) ⌝ }
+    ensures { λ _. ⌜ lent (now (memory .exit)) (now (image .exit)) ≡ sectorsMoved n r (lent (now (memory .entry)) (now (image .entry))) ⌝ }
 {
-    let on_disk = 512 * (r.sector as usize + r.taken as usize);
-    let in_memory = r.address as usize + 512 * r.taken as usize;
+    let on_disk = SECTOR_BYTES * (r.sector as usize + r.taken as usize);
+    let in_memory = r.address as usize + SECTOR_BYTES * r.taken as usize;
+    let size = SECTOR_BYTES * n as usize;
     if command::reads(r) {
-        copy_sector(image, on_disk, memory, in_memory);
+        copy_part(image, on_disk, memory, in_memory, size);
         return;
     }
     if command::writes(r) {
-        copy_sector(memory, in_memory, image, on_disk);
+        copy_part(memory, in_memory, image, on_disk, size);
         return;
     }
 }
 
-// The next step of a command: its sector moves, and the last step then closes the command.
-pub(crate) fn take_step(memory: &mut [u8], image: &mut [u8], d: Drive, r: Record)
-    requires { ⌜ Ready (now memory) (now image) r ⌝ }
-    ensures { λ _. ⌜ now (memory .exit) ≡ step.step d r (stateOf (now (memory .entry)) (now (image .entry)) [] .store) .memory ⌝ }
-    ensures { λ _. ⌜ now (image .exit) ≡ step.step d r (stateOf (now (memory .entry)) (now (image .entry)) [] .store) .image ⌝ }
+// The next n steps of a command: its sectors move, and the last step then closes the command. Nothing else closes it.
+pub(crate) fn take_steps(memory: &mut [u8], image: &mut [u8], d: Drive, r: Record, n: u32)
+    requires { ⌜ (n ≤ remaining r) × Ready n r (lent (now memory) (now image)) ⌝ }
+    ensures { λ _. ⌜ lent (now (memory .exit)) (now (image .exit)) ≡ stepsDone d n r (lent (now (memory .entry)) (now (image .entry))) ⌝ }
 {
-    move_sector(memory, image, r);
-    let steps = command::steps_of(r) as u64;
-    if r.taken as u64 + 1 == steps {
+    if n == 0 {
+        return;
+    }
+    move_sectors(memory, image, r, n);
+    if n == command::remaining(r) {
         close(memory, d, r);
         return;
     }
-}
-
-// The record after a step: one step more is taken.
-pub(crate) fn stepped(r: Record) -> Record
-    requires { ⌜ finished r ≡ false ⌝ }
-    ensures { λ s. ⌜ s ≡ step.stepped r ⌝ }
-{
-    let mut s = r;
-    s.taken = r.taken + 1;
-    s
 }

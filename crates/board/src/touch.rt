@@ -1,55 +1,46 @@
 // What a command reads and writes, and whether two commands conflict, decided on ranges: data against data, data against status
 // bytes, status against status, sectors against sectors, each where either writes, over all the sectors and data of both.
 use crate::command;
+use chain::ranges;
 use meaning::Record;
 ghost use mathlib.Core.Path.{_≡_};
-ghost use Prim.Native.Nat.{max, min};
 ghost use mathlib.Core.List.{_++_};
 ghost use Rattle.meaning.specs.Each.{someOf};
+ghost use Rattle.meaning.specs.Store.{theUnit};
+ghost use Prim.Native.Nat.{_*_};
+ghost use Rattle.meaning.specs.Sectors.{sectorBytes};
+ghost use Rattle.meaning.specs.Ranges.{overlap, bytes, sectorsOf};
 ghost use Rattle.meaning.specs.Touch as touch;
 
-// The later of two places.
-fn later(a: u64, b: u64) -> u64
-    ensures { λ r. ⌜ r ≡ max a b ⌝ }
-{
-    if a < b { b } else { a }
-}
+// A close writes the first four bytes of its IOPB (Step 5).
+const STATUS_BYTES: u32 = 4;
 
-// The earlier of two places.
-fn earlier(a: u64, b: u64) -> u64
-    ensures { λ r. ⌜ r ≡ min a b ⌝ }
+// How many bytes the data of a command has.
+fn data_bytes(r: Record) -> u32
+    ensures { λ n. ⌜ n ≡ sectorBytes * r .count ⌝ }
 {
-    if a < b { a } else { b }
-}
-
-// n from a on and m from b on have something in common.
-pub fn overlap(a: u32, n: u32, b: u32, m: u32) -> bool
-    ensures { λ r. ⌜ r ≡ touch.overlap (touch.range a n) (touch.range b m) ⌝ }
-{
-    let from = later(a as u64, b as u64);
-    let to = earlier(a as u64 + n as u64, b as u64 + m as u64);
-    from < to
+    drive::SECTOR_BYTES as u32 * r.count as u32
 }
 
 // n bytes of memory from a on have one in common with those that s reads or writes.
 fn meets_bytes(a: u32, n: u32, s: Record) -> bool
-    ensures { λ r. ⌜ r ≡ someOf (touch.overlap (touch.range a n)) (touch.touched s .bytesRead ++ touch.touched s .bytesWritten) ⌝ }
+    ensures { λ r. ⌜ r ≡ someOf (overlap (bytes a n)) (touch.touched s .read ++ touch.touched s .written) ⌝ }
 {
     if command::transfers(s) {
-        if overlap(a, n, s.address, 512 * s.count as u32) {
+        if ranges::crosses(a, n, s.address, data_bytes(s)) {
             return true;
         }
-        return overlap(a, n, s.iopb, 4);
+        return ranges::crosses(a, n, s.iopb, STATUS_BYTES);
     }
-    overlap(a, n, s.iopb, 4)
+    ranges::crosses(a, n, s.iopb, STATUS_BYTES)
 }
 
 // n sectors from a on have one in common with those that s reads or writes.
 fn meets_sectors(a: u32, n: u32, s: Record) -> bool
-    ensures { λ r. ⌜ r ≡ someOf (touch.overlap (touch.range a n)) (touch.touched s .sectorsRead ++ touch.touched s .sectorsWritten) ⌝ }
+    ensures { λ r. ⌜ r ≡ someOf (overlap (sectorsOf theUnit a n)) (touch.touched s .read ++ touch.touched s .written) ⌝ }
 {
     if command::transfers(s) {
-        return overlap(a, n, s.sector, s.count as u32);
+        return ranges::crosses(a, n, s.sector, s.count as u32);
     }
     false
 }
@@ -59,18 +50,18 @@ fn disturbs(r: Record, s: Record) -> bool
     ensures { λ b. ⌜ b ≡ touch.disturbs (touch.touched r) (touch.touched s) ⌝ }
 {
     if command::reads(r) {
-        if meets_bytes(r.address, 512 * r.count as u32, s) {
+        if meets_bytes(r.address, data_bytes(r), s) {
             return true;
         }
-        return meets_bytes(r.iopb, 4, s);
-    }
-    if meets_bytes(r.iopb, 4, s) {
-        return true;
+        return meets_bytes(r.iopb, STATUS_BYTES, s);
     }
     if command::writes(r) {
-        return meets_sectors(r.sector, r.count as u32, s);
+        if meets_sectors(r.sector, r.count as u32, s) {
+            return true;
+        }
+        return meets_bytes(r.iopb, STATUS_BYTES, s);
     }
-    false
+    meets_bytes(r.iopb, STATUS_BYTES, s)
 }
 
 // Two commands conflict: one of them writes a byte or sector that the other reads or writes.

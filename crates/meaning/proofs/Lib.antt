@@ -16,6 +16,7 @@ pub mod Looks
 pub mod Conflict
 pub mod Records
 pub mod Numbers
+pub mod Counts
 pub mod Still
 pub mod Lent
 pub mod Walks

@@ -1,4 +1,4 @@
--- `board::run::chain_steps` meets its contract: the sum so far and what is left of the table make the whole. Assumes nothing.
+-- `board::run::chain_steps` meets its contract: the sum so far and what is left of the table make the whole.
 use Prim.Native.Nat.{ℕ}
 use native.Mathlib.Nat.{zero-add}
 use mathlib.Core.Path.{_≡_, sym, ap, _∙_}
@@ -10,7 +10,7 @@ use Rattle.meaning.specs.Each.{sumOf}
 use Rattle.meaning.specs.Command.{stepsOf, noRecord}
 use Rattle.meaning.specs.Run.{chainSteps}
 use Rattle.meaning.proofs.Loops.{sum-at, sum-none}
-use Rattle.board.proofs.Running.{first-in-table}
+use Rattle.board.proofs.Runs.{first-in-table}
 use Rattle.board.proofs.run.chain_steps.Statement.{statement}
 use Rattle.board.proofs.run.chain_steps.Tie as tie
 

@@ -1,4 +1,4 @@
--- `board::step::close` meets its contract: four stores are `sets` of the four closing bytes. Assumes nothing.
+-- `board::step::close` meets its contract: four stores are `sets` of the four closing bytes.
 use Prim.Native.Nat.{ℕ}
 use mathlib.Core.List.{[], _∷_}
 use lib.Seq.{sets}

@@ -1,4 +1,4 @@
--- `board::step::closing_byte0` meets its contract: the code's test decides ERRS. Assumes nothing.
+-- `board::step::closing_byte0` meets its contract: the code's test decides ERRS.
 use borrow.Author.Tests.{eq-eqb, ne-eqb}
 use native.Mathlib.Nat.{add-zero}
 use Rattle.meaning.specs.Step.{closingByte0}
