@@ -23,7 +23,7 @@ use Rattle.meaning.specs.Bench.{ran, runChain, benchState, outcomeOf}
 use Rattle.meaning.proofs.Rows.{or-false}
 use Rattle.meaning.proofs.Conditions.{good}
 use Rattle.meaning.proofs.Walks.{chain-most, chain-is-sound}
-use Rattle.order.proofs.Written.{within-budget}
+use Rattle.meaning.proofs.Counts.{smaller}
 use Rattle.deck.specs.declared.Outcome.{Outcome}
 use Rattle.deck.specs.declared.Outcome.the-variants.{NoDeck, NoChain, Ran}
 use Rattle.deck.specs.declared.Report.{Report}
@@ -78,7 +78,7 @@ module _ (d : Drive) (s : State) (long : length (s .store memory) ≡ memoryByte
   outcome-steps (refused k) cs n e told = let z : _≡_ {A = ℕ} 0 1 = cc in omega arith
   outcome-steps (accepted rs) cs n e told =
       let steps : written d (chainSteps rs (length rs)) rs (s .store) .steps ≡ n = cc in
-      omega (arith, steps, within-budget d (chainSteps rs (length rs)) rs (s .store), chain-steps rs e)
+      omega (arith, steps, smaller d (chainSteps rs (length rs)) rs (s .store), chain-steps rs e)
 
 deck-steps : (b cs : List ℕ) (n : ℕ) → outcomeOf b ≡ ran cs n → n ≤ 256
 deck-steps b cs n e = go (isDeck b) refl

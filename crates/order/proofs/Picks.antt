@@ -1,24 +1,20 @@
 -- A run by picks, one pick after another: what holds at its start, and is kept by an accepted pick and by a refused one, holds at its end.
 -- Counts that stand before a run stand before what it comes to. And what an accepted pick takes from the steps that remain.
 use mathlib.Core.Path.{_≡_, refl, ap, _∙_}
-use Prim.Native.Nat.{ℕ, zero, suc, _+_, _≤_, _<_}
-use native.Mathlib.Nat.{not-suc-le-zero, le-of-suc-le-suc, add-zero, add-suc, suc-add, add-assoc}
+use Prim.Native.Nat.{ℕ, suc, _+_}
+use native.Mathlib.Nat.{add-zero, add-suc, suc-add, add-assoc}
 use native.Mathlib.Omega.{arith}
 use mathlib.Core.Bool.{Bool, true, false, cond}
 use mathlib.Core.List.{List, [], _∷_}
-use lib.ListN.{length, getD, set, take}
+use lib.ListN.{length}
 use lib.Dec.{eqb}
 use borrow.Author.Tests.{eqb-true}
 use Rattle.meaning.specs.declared.Drive.{Drive}
-use Rattle.meaning.specs.declared.Record.{Record}
-use Rattle.meaning.specs.Each.{sumOf}
 use Rattle.meaning.specs.State.{State}
-use Rattle.meaning.specs.Command.{remaining, noRecord}
-use Rattle.meaning.specs.Step.{stepped}
 use Rattle.meaning.specs.Pick.{pickNumber, stepAt}
 use Rattle.meaning.specs.Run.{stepsLeft, Tally, atStart, onePick, picksFrom, byPicks}
 use Rattle.meaning.proofs.Numbers.{Free, place-free, Passed, pick-passed, in-table}
-use Rattle.meaning.proofs.Records.{unfinished-some, remaining-stepped}
+use Rattle.meaning.proofs.Counts.{left-step}
 
 -- a tally after an accepted pick, and after a refused one
 abbrev pub stepTaken : Drive → ℕ → Tally → Tally
@@ -70,27 +66,13 @@ unfolding picksFrom
 before-picks d n [] k j y = refl
 before-picks d n (p ∷ ps) k j y = ap (picksFrom d n ps) (before-pick d n p k j y) ∙ before-picks d n ps k j (onePick d n p y)
 
--- ---- the steps that remain
-
-sum-set : {A : Type 0} (f : A → ℕ) (t : List A) (n p : ℕ) (y z : A) → p < n → p < length t → suc (f y) ≡ f (getD t p z)
-    → suc (sumOf f (take n (set t p y))) ≡ sumOf f (take n t)
-sum-set f [] n p y z h l e = absurd (not-suc-le-zero l)
-sum-set f (x ∷ t) zero p y z h l e = absurd (not-suc-le-zero h)
-sum-set f (x ∷ t) (suc n) zero y z h l e = omega arith
-sum-set f (x ∷ t) (suc n) (suc p) y z h l e = omega (arith, sum-set f t n p y z (le-of-suc-le-suc h) (le-of-suc-le-suc l) e)
-
-pub left-step : (t : List Record) (n p : ℕ) → n ≤ length t → Free t n p → suc (stepsLeft (set t p (stepped (getD t p noRecord))) n) ≡ stepsLeft t n
-unfolding stepsLeft
-left-step t n p l f =
-    let r = getD t p noRecord in
-    sum-set remaining t n p (stepped r) noRecord (f .inUse) (let h = f .inUse in omega arith) (remaining-stepped r (unfinished-some r (f .unfinished)))
+-- ---- counts after a run
 
 -- the steps that picks take, and those that then remain, are those that remained before
 pub of-picks : (d : Drive) (n : ℕ) (ps : List ℕ) (s : State) → let y = byPicks d n ps s in y .steps + stepsLeft (y .state .table) n ≡ stepsLeft (s .table) n
-unfolding stepAt
 of-picks d n ps s =
     picks-keep d n (λ k y. y .steps + stepsLeft (y .state .table) n ≡ stepsLeft (s .table) n)
-    (λ k p y h f q. omega (arith, left-step (y .state .table) n p (in-table d n (y .state) h) f)) (λ k y q. q) ps s (omega arith)
+    (λ k p y h f q. omega (arith, left-step d n p (y .state) (in-table d n (y .state) h) f)) (λ k y q. q) ps s (omega arith)
 
 -- each pick is a step or a refusal
 pub every-pick : (d : Drive) (n : ℕ) (ps : List ℕ) (s : State) → let y = byPicks d n ps s in y .steps + y .refused ≡ length ps

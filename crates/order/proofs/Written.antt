@@ -1,12 +1,10 @@
 -- The run as written at its first command: as many steps of it as the budget and what remains of it allow, and then the rest. So a
 -- finished command is passed by, and of an unfinished one a single step may be taken before the same with one step less of budget.
 use mathlib.Core.Path.{_≡_, refl, sym, ap, _∙_}
-use Prim.Native.Nat.{ℕ, suc, _+_, _-_, _≤_, _<_, min}
-use native.Mathlib.Omega.{arith}
+use Prim.Native.Nat.{ℕ, suc, _+_, _-_, _<_, min}
 use native.Mathlib.Nat.{min-zero, sub-zero, suc-min-suc, suc-sub-suc, suc-add, add-suc}
 use mathlib.Core.Bool.{true}
 use mathlib.Core.List.{List, [], _∷_}
-use lib.ListN.{length}
 use Rattle.meaning.specs.declared.Drive.{Drive}
 use Rattle.meaning.specs.declared.Record.{Record}
 use Rattle.meaning.specs.Store.{Store}
@@ -56,18 +54,8 @@ written-unfinished d b r rs s h =
     ∙ front-suc k r (written d (b - k) rs u)
     ∙ sym (ap oneMore (written-cons d b (stepped r) rs (step d r s) k refl))
 
--- no pick is refused, and there are as many records as before
+-- no pick is refused
 pub none-refused : (d : Drive) (b : ℕ) (t : List Record) (s : Store) → written d b t s .refused ≡ 0
 unfolding written
 none-refused d b [] s = refl
 none-refused d b (r ∷ rs) s = let k = min b (remaining r) in none-refused d (b - k) rs (stepsDone d k r s)
-
-pub length-written : (d : Drive) (b : ℕ) (t : List Record) (s : Store) → length (written d b t s .state .table) ≡ length t
-unfolding written
-length-written d b [] s = refl
-length-written d b (r ∷ rs) s = let k = min b (remaining r) in ap suc (length-written d (b - k) rs (stepsDone d k r s))
-
-pub within-budget : (d : Drive) (b : ℕ) (t : List Record) (s : Store) → written d b t s .steps ≤ b
-unfolding written
-within-budget d b [] s = omega arith
-within-budget d b (r ∷ rs) s = let k = min b (remaining r) in omega (arith, within-budget d (b - k) rs (stepsDone d k r s))
