@@ -44,18 +44,14 @@ sum-set f (x ∷ t) zero p y z h l e = absurd (not-suc-le-zero h)
 sum-set f (x ∷ t) (suc n) zero y z h l e = omega arith
 sum-set f (x ∷ t) (suc n) (suc p) y z h l e = omega (arith, sum-set f t n p y z (le-of-suc-le-suc h) (le-of-suc-le-suc l) e)
 
--- in the table alone, and as part of a state
-left-set : (t : List Record) (n p : ℕ) → n ≤ length t → Free t n p → suc (stepsLeft (set t p (stepped (getD t p noRecord))) n) ≡ stepsLeft t n
-unfolding stepsLeft
-left-set t n p l f =
-    let r = getD t p noRecord in
-    let h = f .inUse in
-    sum-set remaining t n p (stepped r) noRecord (f .inUse) (omega arith) (remaining-stepped r (unfinished-some r (f .unfinished)))
-
 pub left-step : (d : Drive) (n p : ℕ) (s : State) → n ≤ length (s .table) → Free (s .table) n p
     → suc (stepsLeft (stepAt d p s .table) n) ≡ stepsLeft (s .table) n
-unfolding stepAt
-left-step d n p s l f = left-set (s .table) n p l f
+unfolding stepAt stepsLeft
+left-step d n p s l f =
+    let r = getD (s .table) p noRecord in
+    let h = f .inUse in
+    sum-set remaining (s .table) n p (stepped r) noRecord (f .inUse) (omega arith)
+    (remaining-stepped r (unfinished-some r (f .unfinished)))
 
 -- ---- as written
 
