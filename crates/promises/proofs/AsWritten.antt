@@ -16,14 +16,14 @@ use Rattle.meaning.proofs.Still.{still-accepted}
 use Rattle.order.specs.States.{earliest, writtenPicks}
 use Rattle.order.specs.Earliest.{Earliest}
 use Rattle.order.proofs.Earliest.{earliest-is-there, earliest-never-waits, written-is-picks}
-use Rattle.promises.specs.Taken.{Along, BySteps, Tried, none, take, pass, RunAsWrittenTakesSteps}
+use Rattle.promises.specs.Taken.{Along, BySteps, Tried, no-more, accept, refuse, RunAsWrittenTakesSteps}
 use Rattle.promises.proofs.Taken.{Accepted, along-map, no-steps, picks-taken}
 
 -- picks that are all accepted are all taken
 tried-all : {d : Drive} {n : ℕ} {s : State} {ps qs : List ℕ} → Along d (Accepted d n) ps s → Tried d n s ps qs → qs ≡ ps
-tried-all h none = refl
-tried-all h (take {p} z t) = ap (λ (l : List ℕ). p ∷ l) (tried-all (h .1) t)
-tried-all h (pass o t) = absurd (o (h .0))
+tried-all h no-more = refl
+tried-all h (accept {p} z t) = ap (λ (l : List ℕ). p ∷ l) (tried-all (h .1) t)
+tried-all h (refuse o t) = absurd (o (h .0))
 
 module _ (d : Drive) (n : ℕ) where
   -- an accepted step of the earliest unfinished command

@@ -11,7 +11,7 @@ use Rattle.meaning.specs.State.{State}
 use Rattle.meaning.specs.Pick.{pickNumber, stepAt}
 use Rattle.meaning.specs.Run.{runNumber, Tally, atStart, onePick, picksFrom, byPicks, ranTo, runReply, RunGives}
 use Rattle.meaning.proofs.Means.{Means, holds, fails, means-eq}
-use Rattle.promises.specs.Taken.{stepsAt, Along, BySteps, Tried, none, take, pass, RunByPicksTakesSteps, StepsMoveOne}
+use Rattle.promises.specs.Taken.{stepsAt, Along, BySteps, Tried, no-more, accept, refuse, RunByPicksTakesSteps, StepsMoveOne}
 use Rattle.promises.proofs.PickMoves.{taken-moves-one}
 
 -- ---- along the way
@@ -59,18 +59,18 @@ module _ (d : Drive) (n : ℕ) where
       let c = rest (took p y) in
       record {
         places = p ∷ c .places;
-        tried = take z (c .tried);
+        tried = accept z (c .tried);
         accepted = (z, c .accepted);
         left = c .left;
         many = let e = c .many in omega arith;
       }
   one-counted p ps y (fails o) rest =
       let c = rest (passed y) in
-      record { places = c .places; tried = pass o (c .tried); accepted = c .accepted; left = c .left; many = c .many }
+      record { places = c .places; tried = refuse o (c .tried); accepted = c .accepted; left = c .left; many = c .many }
 
   picks-counted : (ps : List ℕ) (y : Tally) → Counted d n ps y (picksFrom d n ps y)
   unfolding picksFrom onePick
-  picks-counted [] y = record { places = []; tried = none; accepted = tt; left = refl; many = omega arith }
+  picks-counted [] y = record { places = []; tried = no-more; accepted = tt; left = refl; many = omega arith }
   picks-counted (p ∷ ps) y = one-counted p ps y (means-eq (pickNumber d n p (y .state)) 0) (picks-counted ps)
 
 -- what picks come to, tried in turn

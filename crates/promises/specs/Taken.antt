@@ -36,9 +36,9 @@ pub record BySteps (d : Drive) (n : ℕ) (s s′ : State) (k : ℕ) : Type 0 whe
 
 -- The picks ps, tried in turn from state s on, come down to steps at qs: those that are refused are passed over, and no others.
 pub data Tried (d : Drive) (n : ℕ) : State → List ℕ → List ℕ → Type 0 where
-  none : {s : State} → Tried d n s [] []
-  take : {s : State} {p : ℕ} {ps qs : List ℕ} → pickNumber d n p s ≡ 0 → Tried d n (stepAt d p s) ps qs → Tried d n s (p ∷ ps) (p ∷ qs)
-  pass : {s : State} {p : ℕ} {ps qs : List ℕ} → pickNumber d n p s ≢ 0 → Tried d n s ps qs → Tried d n s (p ∷ ps) qs
+  no-more : {s : State} → Tried d n s [] []
+  accept : {s : State} {p : ℕ} {ps qs : List ℕ} → pickNumber d n p s ≡ 0 → Tried d n (stepAt d p s) ps qs → Tried d n s (p ∷ ps) (p ∷ qs)
+  refuse : {s : State} {p : ℕ} {ps qs : List ℕ} → pickNumber d n p s ≢ 0 → Tried d n s ps qs → Tried d n s (p ∷ ps) qs
 
 -- a run by the picks ps takes those of them that are accepted, in their order
 abbrev pub RunByPicksTakesSteps : Type 0
