@@ -2,7 +2,7 @@
 -- places of its own table, on its own drive, as many as it reports; and each of them moves one named sector, closes one command, or both.
 use mathlib.Core.Path.{_≡_}
 use mathlib.Core.Logic.{_≢_}
-use Prim.Native.Nat.{ℕ, _<_}
+use Prim.Native.Nat.{ℕ}
 use mathlib.Core.List.{List, [], _∷_}
 use lib.ListN.{length}
 use Rattle.meaning.specs.declared.Drive.{Drive}
@@ -10,8 +10,8 @@ use Rattle.meaning.specs.declared.Ran.{Ran}
 use Rattle.meaning.specs.State.{State}
 use Rattle.meaning.specs.Pick.{pickNumber, stepAt}
 use Rattle.meaning.specs.Run.{byPicks, asWritten, RunGives}
-use Rattle.meaning.specs.Conditions.{Finished}
-use Rattle.promises.specs.PickMoves.{commandAt, PickMoves}
+use Rattle.order.specs.Earliest.{Earliest}
+use Rattle.promises.specs.PickMoves.{PickMoves}
 
 -- the steps at the places ps, one after another
 abbrev pub stepsAt : Drive → List ℕ → State → State
@@ -36,13 +36,9 @@ pub record BySteps (d : Drive) (n : ℕ) (s s′ : State) (k : ℕ) : Type 0 whe
 
 -- The picks ps, tried in turn from state s on, come down to steps at qs: those that are refused are passed over, and no others.
 pub data Tried (d : Drive) (n : ℕ) : State → List ℕ → List ℕ → Type 0 where
-  none : {s : State} → Tried d n s [] []
-  take : {s : State} {p : ℕ} {ps qs : List ℕ} → pickNumber d n p s ≡ 0 → Tried d n (stepAt d p s) ps qs → Tried d n s (p ∷ ps) (p ∷ qs)
-  pass : {s : State} {p : ℕ} {ps qs : List ℕ} → pickNumber d n p s ≢ 0 → Tried d n s ps qs → Tried d n s (p ∷ ps) qs
-
--- every command before place p is finished
-abbrev pub Earliest : State → ℕ → Type 0
-Earliest s p = (k : ℕ) → k < p → Finished (commandAt s k)
+  no-more : {s : State} → Tried d n s [] []
+  accept : {s : State} {p : ℕ} {ps qs : List ℕ} → pickNumber d n p s ≡ 0 → Tried d n (stepAt d p s) ps qs → Tried d n s (p ∷ ps) (p ∷ qs)
+  refuse : {s : State} {p : ℕ} {ps qs : List ℕ} → pickNumber d n p s ≢ 0 → Tried d n s ps qs → Tried d n s (p ∷ ps) qs
 
 -- a run by the picks ps takes those of them that are accepted, in their order
 abbrev pub RunByPicksTakesSteps : Type 0
@@ -51,12 +47,12 @@ RunByPicksTakesSteps =
     → RunGives d n (byPicks d n ps) s r s′
     → (b : BySteps d n s s′ (r .steps)) × (r .number ≡ 0 → Tried d n s ps (b .places))
 
--- a run as written takes each step of the earliest unfinished command
+-- a run as written takes each step of the command that is the earliest unfinished one then
 abbrev pub RunAsWrittenTakesSteps : Type 0
 RunAsWrittenTakesSteps =
     (d : Drive) (n b : ℕ) (s : State) (r : Ran) (s′ : State)
     → RunGives d n (asWritten d n b) s r s′
-    → (y : BySteps d n s s′ (r .steps)) × Along d Earliest (y .places) s
+    → (y : BySteps d n s s′ (r .steps)) × Along d (λ (u : State) (p : ℕ). Earliest (u .table) n p) (y .places) s
 
 -- each step along the way moves one
 abbrev pub StepsMoveOne : Type 0
