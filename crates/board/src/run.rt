@@ -81,7 +81,11 @@ fn refused(number: u8) -> Ran
 fn in_table(commands: usize) -> usize
     ensures { λ n. ⌜ n ≡ min commands 32 ⌝ }
 {
-    if commands < RECORDS { commands } else { RECORDS }
+    if commands < RECORDS {
+        commands
+    } else {
+        RECORDS
+    }
 }
 
 // The steps of a chain, from its start: the sum of the steps of its commands (Run 6).

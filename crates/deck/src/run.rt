@@ -9,11 +9,13 @@ ghost use mathlib.Core.Path.{_≡_};
 ghost use Prim.Native.Nat.{_≤_, _-_};
 ghost use lib.ListN.{take, drop, replicate};
 ghost use Rattle.meaning.specs.Store.{lent};
-ghost use Rattle.meaning.specs.Bench.{outcomeOf};
+ghost use Rattle.meaning.specs.Bench.{noRecords, outcomeOf};
 ghost use Rattle.deck.specs.Meant.{Reports, codesOf, chainOutcome};
 
 // A table that holds no command yet.
-fn empty_table() -> [Record; 32] {
+fn empty_table() -> [Record; 32]
+    ensures { λ t. ⌜ t ≡ noRecords ⌝ }
+{
     [Record {
         iopb: 0,
         address: 0,
