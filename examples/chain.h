@@ -1,4 +1,4 @@
-/* A chain of IOPBs, laid in the host's memory as document 01's table of the thirty bytes says. */
+/* A chain of IOPBs, laid in the host's memory as IOPB 3 to 14 of docs/RULES.md say. */
 #ifndef CHAIN_H
 #define CHAIN_H
 

@@ -46,7 +46,7 @@ static const char *number_in_words(uint8_t number)
     case ROSADENCA_NO_SUCH_PLACE: return "there is no such place in the table";
     case ROSADENCA_TABLE_SPOILED: return "the table is spoiled";
     case ROSADENCA_NO_SUCH_SECTOR: return "there is no such sector";
-    default: return "a number that document 01 does not know";
+    default: return "a number that the rules do not have";
     }
 }
 
@@ -63,7 +63,7 @@ static const char *code_in_words(uint8_t code)
     case ROSADENCA_CODE_SECTOR: return "the sector is too high";
     case ROSADENCA_CODE_WRITE_PROTECTED: return "the drive is protected";
     case ROSADENCA_CODE_BUS_ERROR: return "the data does not fit in memory";
-    default: return "a code that document 01 does not know";
+    default: return "a code that the rules do not have";
     }
 }
 
@@ -71,8 +71,8 @@ static const char *code_in_words(uint8_t code)
 static bool walk(lent *host)
 {
     printf("I lay a chain of %d commands in memory, and the board walks it:\n", (int)WISHES);
-    rosadenca_lent_walked walked = rosadenca_walk(host->memory, MEMORY_BYTES, host->image, DISK_BYTES, host->drive, 0, host->table,
-                                                  ROSADENCA_MOST_COMMANDS);
+    rosadenca_walked walked = rosadenca_walk(host->memory, MEMORY_BYTES, host->image, DISK_BYTES, host->drive, 0, host->table,
+                                             ROSADENCA_MOST_COMMANDS);
     host->commands = walked.commands;
     if (walked.number != ROSADENCA_ACCEPTED) {
         fprintf(stderr, "host: the walk was refused with number %d: %s\n", walked.number, number_in_words(walked.number));
@@ -102,8 +102,8 @@ static void pick(lent *host, size_t place)
 static bool finish(lent *host)
 {
     puts("Now the board does the rest as written:");
-    rosadenca_lent_ran ran = rosadenca_run_written(host->memory, MEMORY_BYTES, host->image, DISK_BYTES, host->drive, host->table,
-                                                   ROSADENCA_MOST_COMMANDS, host->commands, UINT64_MAX);
+    rosadenca_ran ran = rosadenca_run_written(host->memory, MEMORY_BYTES, host->image, DISK_BYTES, host->drive, host->table,
+                                              ROSADENCA_MOST_COMMANDS, host->commands, UINT64_MAX);
     if (ran.number != ROSADENCA_ACCEPTED || !ran.finished) {
         fprintf(stderr, "host: the run was refused with number %d: %s\n", ran.number, number_in_words(ran.number));
         return false;

@@ -1,7 +1,7 @@
 /*
  * Rosadenca: the board that answers in place of a disk controller, for C and C++ programs to link (target/native/libfirmware.a,
- * which tools/archive makes). The words are those of our document 01, which has the exact rules; what is proved of each function
- * stands at its source, crates/firmware. Needs C11, or C++11.
+ * which tools/archive makes, on 64-bit x86 and 64-bit Arm under Linux). The exact rules are docs/RULES.md, cited here by their
+ * numbers, as in Walk 3; what is proved of each function stands at its source, crates/firmware. Needs C11, or C++11.
  *
  * How a host uses it: lay a chain of IOPBs in memory, rosadenca_walk it into a table of records, then take the steps, by
  * rosadenca_pick or rosadenca_run_picks in an order of your own, or by rosadenca_run_written as the chain is written. The board keeps
@@ -16,6 +16,9 @@
  * Nothing else is asked: whatever the bytes, numbers and lengths are, the call ends and answers with one of the numbers below, and on
  * every number but 0 it has changed nothing. No function allocates or keeps a pointer; of the C library only memcpy and memset are
  * called.
+ *
+ * What a call has written is in the lent bytes when it returns, and nowhere else: a host that must survive a power cut then makes the
+ * image durable (msync, fsync), before it tells anyone.
  */
 #ifndef ROSADENCA_H
 #define ROSADENCA_H
@@ -30,52 +33,51 @@ extern "C" {
 
 /* The limits. */
 enum {
-    ROSADENCA_MEMORY_LIMIT = 65536,   /* the most bytes that host memory may have */
-    ROSADENCA_IMAGE_LIMIT = 16777216, /* the most bytes that the image may have */
-    ROSADENCA_SECTOR_BYTES = 512,     /* the bytes of one sector */
-    ROSADENCA_MOST_COMMANDS = 32,     /* the most commands of a chain, and the fewest records of a lent table */
-    ROSADENCA_IOPB_BYTES = 30         /* the bytes of one IOPB */
+    ROSADENCA_MEMORY_LIMIT = 65536,   /* the most bytes that host memory may have: Board 1 */
+    ROSADENCA_IMAGE_LIMIT = 16777216, /* the most bytes that the image may have: Board 2 */
+    ROSADENCA_SECTOR_BYTES = 512,     /* the bytes of one sector: Board 2 */
+    ROSADENCA_MOST_COMMANDS = 32,     /* the most commands of a chain, and the fewest records of a lent table: Walk 3, Size 4 */
+    ROSADENCA_IOPB_BYTES = 30         /* the bytes of one IOPB: IOPB 1 */
 };
 
 /* The numbers that calls answer with. */
 enum {
     ROSADENCA_ACCEPTED = 0,          /* accepted: the table is filled, the step taken, the run done, the sector handed back */
-    ROSADENCA_SIZES_WRONG = 1,       /* memory over 65,536, image over its limit or not the drive's size, or the lent table shorter
-                                        than 32 */
-    ROSADENCA_ADDRESS_ODD = 2,       /* first address odd */
-    ROSADENCA_IOPB_OUTSIDE = 3,      /* some IOPB reached has not all 30 bytes in memory */
-    ROSADENCA_IOPB_SHARED = 4,       /* some IOPB shares a byte with an earlier one of the chain (a loop is such a case) */
-    ROSADENCA_CHAIN_TOO_LONG = 5,    /* the chain goes past 32 commands */
-    ROSADENCA_COMMAND_WAITS = 6,     /* an earlier unfinished command conflicts with it */
-    ROSADENCA_COMMAND_FINISHED = 7,  /* that command is finished */
-    ROSADENCA_NO_SUCH_PLACE = 8,     /* no such place */
-    ROSADENCA_TABLE_SPOILED = 9,     /* the table has over 32 commands, or a record in use that cannot be run: see rosadenca_pick */
-    ROSADENCA_NO_SUCH_SECTOR = 10    /* there is no such sector */
+    ROSADENCA_SIZES_WRONG = 1,       /* memory, image or lent table have the wrong size: Size 1 to 4 */
+    ROSADENCA_ADDRESS_ODD = 2,       /* the address to start at is odd: Walk 6, View 3 */
+    ROSADENCA_IOPB_OUTSIDE = 3,      /* an IOPB is not all in memory: Walk 8, View 4 */
+    ROSADENCA_IOPB_SHARED = 4,       /* an IOPB shares a byte with an earlier one, as in a loop: Walk 9 */
+    ROSADENCA_CHAIN_TOO_LONG = 5,    /* there is a 33rd command: Walk 7 */
+    ROSADENCA_COMMAND_WAITS = 6,     /* an earlier command that is not finished conflicts with this one: Pick 6, Touch 4 */
+    ROSADENCA_COMMAND_FINISHED = 7,  /* the command has no step left: Pick 5 */
+    ROSADENCA_NO_SUCH_PLACE = 8,     /* the table has no command at that place: Pick 4 */
+    ROSADENCA_TABLE_SPOILED = 9,     /* over 32 commands, or a record in use that cannot be run: Spoiled 1 to 7 */
+    ROSADENCA_NO_SUCH_SECTOR = 10    /* the drive has no such sector: Look 5 */
 };
 
-/* The completion codes, in byte 1 of a closed IOPB and in a record. At the walk the first that applies wins, in this order. */
+/* The completion codes, in byte 1 of a closed IOPB and in a record. The walk gives the first that applies: Code 1 to 12. */
 enum {
-    ROSADENCA_CODE_NEXT_ODD = 0x1E,        /* CHEN set and next address odd (next alignment error): the chain ends here */
-    ROSADENCA_CODE_UNIMPLEMENTED = 0x14,   /* command above 2, or SGM set, or byte 4 not zero */
-    ROSADENCA_CODE_NOT_READY = 0x42,       /* unit not 0 (drive not ready) */
-    ROSADENCA_CODE_COUNT_ZERO = 0x13,      /* count zero */
-    ROSADENCA_CODE_CYLINDER = 0x10,        /* cylinder above its maximum, or first sector number + count is more than the drive has */
-    ROSADENCA_CODE_HEAD = 0x11,            /* head above its maximum */
-    ROSADENCA_CODE_SECTOR = 0x12,          /* sector above its maximum */
-    ROSADENCA_CODE_WRITE_PROTECTED = 0x90, /* Write Data and the drive is protected */
-    ROSADENCA_CODE_BUS_ERROR = 0x4B,       /* data address + 512 x count is past the end of memory (bus error) */
-    ROSADENCA_CODE_SUCCESS = 0x00          /* otherwise, and for a No Operation that passed the first two */
+    ROSADENCA_CODE_NEXT_ODD = 0x1E,        /* another IOPB follows, at an odd address; the chain ends here: Code 1 */
+    ROSADENCA_CODE_UNIMPLEMENTED = 0x14,   /* a command above 2, or SGM, or a subfunction that is not 0: Code 2 */
+    ROSADENCA_CODE_NOT_READY = 0x42,       /* a unit other than 0: Code 4 */
+    ROSADENCA_CODE_COUNT_ZERO = 0x13,      /* no sector to move: Code 5 */
+    ROSADENCA_CODE_CYLINDER = 0x10,        /* the cylinder is above its maximum, or the drive ends too early: Code 6 and 9 */
+    ROSADENCA_CODE_HEAD = 0x11,            /* the head is above its maximum: Code 7 */
+    ROSADENCA_CODE_SECTOR = 0x12,          /* the sector is above its maximum: Code 8 */
+    ROSADENCA_CODE_WRITE_PROTECTED = 0x90, /* a write to a protected drive: Code 10 */
+    ROSADENCA_CODE_BUS_ERROR = 0x4B,       /* the data goes past the end of memory: Code 11 */
+    ROSADENCA_CODE_SUCCESS = 0x00          /* none of these: Code 3 and 12 */
 };
 
-/* The commands that the base does, in bits 3-0 of byte 0. */
+/* The commands that the board does, in bits 3-0 of byte 0: Board 5. */
 enum {
     ROSADENCA_NO_OPERATION = 0,
     ROSADENCA_WRITE_DATA = 1,
     ROSADENCA_READ_DATA = 2
 };
 
-/* The drive: three maxima counted from zero, and the write-protect mark. Its image has exactly
-   512 x (cylinder + 1) x (head + 1) x (sector + 1) bytes. Passed by value. */
+/* The drive: three maxima counted from zero, and the write-protect mark (Board 3). Its image has exactly
+   512 x (cylinder + 1) x (head + 1) x (sector + 1) bytes (Drive 5). Passed by value. */
 typedef struct rosadenca_drive {
     uint16_t cylinder;
     uint8_t head;
@@ -83,7 +85,8 @@ typedef struct rosadenca_drive {
     bool write_protected;
 } rosadenca_drive;
 
-/* One accepted command, as the walk leaves it in the table. A caller keeps records and hands them back; it has no need to write one. */
+/* One accepted command, as the walk leaves it in the table: Record 3. A caller keeps records and hands them back; it has no need to
+   write one. */
 typedef struct rosadenca_record {
     uint32_t iopb;    /* where its IOPB is */
     uint32_t address; /* the data address */
@@ -95,18 +98,18 @@ typedef struct rosadenca_record {
 } rosadenca_record;
 
 /* What the walk gives. */
-typedef struct rosadenca_lent_walked {
+typedef struct rosadenca_walked {
     uint8_t number;
-    size_t commands; /* how many commands: 0 on a refusal. Later calls take it */
-} rosadenca_lent_walked;
+    size_t commands; /* how many commands: 0 on a refusal. Later calls take it: Record 5 */
+} rosadenca_walked;
 
-/* What a run gives. */
-typedef struct rosadenca_lent_ran {
+/* What a run gives: Run 3 and 5. */
+typedef struct rosadenca_ran {
     uint64_t steps;   /* steps taken */
     uint64_t refused; /* picks refused, each with a number other than 0; always 0 for a run as written */
     uint8_t number;
     bool finished;    /* whether all commands are finished now */
-} rosadenca_lent_ran;
+} rosadenca_ran;
 
 /* A part of the image: `length` bytes from its byte `at` on. */
 typedef struct rosadenca_part {
@@ -114,65 +117,101 @@ typedef struct rosadenca_part {
     size_t length;
 } rosadenca_part;
 
+/* The structs lie in memory as the archive has them: each size, and where each field begins. */
+#ifdef __cplusplus
+#define ROSADENCA_HOLDS(claim) static_assert(claim, #claim)
+#else
+#define ROSADENCA_HOLDS(claim) _Static_assert(claim, #claim)
+#endif
+#define ROSADENCA_AT(type, field, at) ROSADENCA_HOLDS(offsetof(type, field) == (at))
+ROSADENCA_HOLDS(sizeof(size_t) == 8);
+ROSADENCA_HOLDS(sizeof(bool) == 1);
+ROSADENCA_HOLDS(sizeof(rosadenca_drive) == 6);
+ROSADENCA_AT(rosadenca_drive, cylinder, 0);
+ROSADENCA_AT(rosadenca_drive, head, 2);
+ROSADENCA_AT(rosadenca_drive, sector, 3);
+ROSADENCA_AT(rosadenca_drive, write_protected, 4);
+ROSADENCA_HOLDS(sizeof(rosadenca_record) == 20);
+ROSADENCA_AT(rosadenca_record, iopb, 0);
+ROSADENCA_AT(rosadenca_record, address, 4);
+ROSADENCA_AT(rosadenca_record, sector, 8);
+ROSADENCA_AT(rosadenca_record, taken, 12);
+ROSADENCA_AT(rosadenca_record, count, 16);
+ROSADENCA_AT(rosadenca_record, byte0, 18);
+ROSADENCA_AT(rosadenca_record, code, 19);
+ROSADENCA_HOLDS(sizeof(rosadenca_walked) == 16);
+ROSADENCA_AT(rosadenca_walked, number, 0);
+ROSADENCA_AT(rosadenca_walked, commands, 8);
+ROSADENCA_HOLDS(sizeof(rosadenca_ran) == 24);
+ROSADENCA_AT(rosadenca_ran, steps, 0);
+ROSADENCA_AT(rosadenca_ran, refused, 8);
+ROSADENCA_AT(rosadenca_ran, number, 16);
+ROSADENCA_AT(rosadenca_ran, finished, 17);
+ROSADENCA_HOLDS(sizeof(rosadenca_part) == 16);
+ROSADENCA_AT(rosadenca_part, at, 0);
+ROSADENCA_AT(rosadenca_part, length, 8);
+#undef ROSADENCA_AT
+#undef ROSADENCA_HOLDS
+
 /*
- * Walks the chain that starts at an address, and copies what is needed from every IOPB into the table, before anything moves.
- * Numbers, in this order: 1 sizes wrong; 2 start odd; then at each IOPB in turn 5 past 32 commands, 3 not all 30 bytes in memory,
- * 4 shares a byte with an earlier one; else 0. A command that will fail is accepted too: its record holds its code.
+ * Walks the chain that starts at an address, and copies what is needed from every IOPB into the table, before anything moves: Walk 1.
+ * Numbers, in this order: 1, 2, then at each IOPB in turn 5, 3, 4; else 0 (Walk 5 to 10). A command that will fail is accepted too:
+ * its record holds its code.
  * On 0 the records of the commands are written, with no step taken, and those past the last command are left alone. On any other
  * number the table is left alone, and commands is 0.
  */
-rosadenca_lent_walked rosadenca_walk(const uint8_t *memory, size_t memory_length, const uint8_t *image, size_t image_length,
-                                     rosadenca_drive drive, uint32_t start, rosadenca_record *table, size_t table_length);
+rosadenca_walked rosadenca_walk(const uint8_t *memory, size_t memory_length, const uint8_t *image, size_t image_length,
+                                rosadenca_drive drive, uint32_t start, rosadenca_record *table, size_t table_length);
 
 /*
- * Takes one step of the command at a place of the table, the first being 0. A transfer with code 00 has as many steps as its count,
- * and each moves one sector; every other command has one step. The last step also closes the command: it writes bytes 0 to 3 of its
- * IOPB, after its sector has moved.
- * Numbers, in this order: 1 sizes wrong; 9 over 32 commands, or a record in use has its IOPB not all in memory or more steps taken
- * than it has, or is a code 00 transfer with count zero, with data or sectors outside memory or drive, or writing to a protected
- * drive; 8 no such place; 7 that command is finished; 6 an earlier unfinished command conflicts with it; else 0.
+ * Takes one step of the command at a place of the table, the first being 0: Pick 1. A transfer with code 00 has as many steps as its
+ * count, and each moves one sector; every other command has one step (Step 1 to 3). The last step also closes the command: after its
+ * sector has moved, it writes bytes 0 to 3 of its IOPB (Step 4 to 9).
+ * Numbers, in this order: 1, 9, 8, 7, 6; else 0 (Pick 2 to 7). 9 is for over 32 commands, or for a record in use that has its IOPB
+ * not all in memory or more steps taken than it has, or that is a transfer with no sector, with data or sectors outside memory or
+ * drive, or a write to a protected drive (Spoiled 1 to 7).
  * On 0 one step is taken in memory, image and table. On any other number nothing is changed.
  */
 uint8_t rosadenca_pick(uint8_t *memory, size_t memory_length, uint8_t *image, size_t image_length, rosadenca_drive drive,
                        rosadenca_record *table, size_t table_length, size_t commands, size_t place);
 
 /*
- * Takes a list of picks, one byte each, in turn. A refused pick (6, 7 or 8) is passed over and counted.
- * Numbers: 1 and 9 as for rosadenca_pick, with zero counts and not finished, and nothing changed; else 0.
+ * Takes a list of picks, one byte each, in turn. A refused pick (6, 7 or 8) is passed over and counted: Run 1 to 4.
+ * Numbers: 1 and 9 as for rosadenca_pick, with zero counts and not finished, and nothing changed; else 0 (Run 8 and 9).
  */
-rosadenca_lent_ran rosadenca_run_picks(uint8_t *memory, size_t memory_length, uint8_t *image, size_t image_length,
-                                       rosadenca_drive drive, rosadenca_record *table, size_t table_length, size_t commands,
-                                       const uint8_t *picks, size_t picks_length);
+rosadenca_ran rosadenca_run_picks(uint8_t *memory, size_t memory_length, uint8_t *image, size_t image_length,
+                                  rosadenca_drive drive, rosadenca_record *table, size_t table_length, size_t commands,
+                                  const uint8_t *picks, size_t picks_length);
 
 /*
- * Takes steps as written, always of the earliest unfinished command: as many as remain, or as the budget allows if that is smaller.
- * Numbers: 1 and 9 as for rosadenca_pick, with zero steps and not finished, and nothing changed; else 0.
+ * Takes steps as written, always of the earliest unfinished command: as many as remain, or as the budget allows if that is smaller:
+ * Run 5. Numbers: 1 and 9 as for rosadenca_pick, with zero steps and not finished, and nothing changed; else 0 (Run 8 and 9).
  */
-rosadenca_lent_ran rosadenca_run_written(uint8_t *memory, size_t memory_length, uint8_t *image, size_t image_length,
-                                         rosadenca_drive drive, rosadenca_record *table, size_t table_length, size_t commands,
-                                         uint64_t budget);
+rosadenca_ran rosadenca_run_written(uint8_t *memory, size_t memory_length, uint8_t *image, size_t image_length,
+                                    rosadenca_drive drive, rosadenca_record *table, size_t table_length, size_t commands,
+                                    uint64_t budget);
 
 /*
- * The number of a look at a sector: 1 if the image is over its limit or not the drive's size, then 10 if there is no such sector,
- * else 0. Changes nothing.
+ * The number of a look at a sector: 1 if the image has the wrong size, then 10 if there is no such sector, else 0 (Look 4 to 6).
+ * Changes nothing.
  */
 uint8_t rosadenca_look_number(const uint8_t *image, size_t image_length, rosadenca_drive drive, uint32_t sector);
 
 /*
- * Where in the image a sector lies: 512 bytes from 512 x sector on, or 0 bytes from 0 on exactly where rosadenca_look_number is not 0.
- * Changes nothing.
+ * Where in the image a sector lies: 512 bytes from 512 x sector on, or 0 bytes from 0 on exactly where rosadenca_look_number is not 0
+ * (Look 1 and 3). Changes nothing.
  */
 rosadenca_part rosadenca_look(const uint8_t *image, size_t image_length, rosadenca_drive drive, uint32_t sector);
 
 /*
- * The number of a viewer's making over the IOPB at an address: 2 for an odd address, then 3 for thirty bytes not all in memory, else 0.
- * Changes nothing.
+ * The number of a view of the IOPB at an address: 2 for an odd address, then 3 for thirty bytes not all in memory, else 0
+ * (View 3 to 5). Changes nothing.
  */
 uint8_t rosadenca_view_number(const uint8_t *memory, size_t memory_length, uint32_t at);
 
 /*
- * The fields of the IOPB at an address, as the viewer that is made there gives them: every field is 0 where rosadenca_view_number is
- * not 0. A bit is 0 or 1. They change nothing.
+ * The fields of the IOPB at an address (IOPB 3 to 14): every one is 0 where rosadenca_view_number is not 0 (View 7). A bit is 0 or 1.
+ * They change nothing.
  */
 uint8_t rosadenca_errs(const uint8_t *memory, size_t memory_length, uint32_t at);        /* byte 0, bit 7: it failed */
 uint8_t rosadenca_done(const uint8_t *memory, size_t memory_length, uint32_t at);        /* byte 0, bit 6: it is closed */

@@ -108,11 +108,11 @@ fn assertions() -> String {
         (byte0, "byte0"),
         (code, "code")
     );
-    layout!(text, LentWalked, "rosadenca_lent_walked", (number, "number"), (commands, "commands"));
+    layout!(text, LentWalked, "rosadenca_walked", (number, "number"), (commands, "commands"));
     layout!(
         text,
         LentRan,
-        "rosadenca_lent_ran",
+        "rosadenca_ran",
         (steps, "steps"),
         (refused, "refused"),
         (number, "number"),
@@ -138,7 +138,7 @@ fn compiles(name: &str, text: &str) -> Result<(), String> {
     Err(String::from_utf8_lossy(&ran.stderr).into_owned())
 }
 
-/// The limits that the header names are those that the second program has from document 01.
+/// The limits that the header names are those that the second program has.
 #[test]
 fn the_headers_limits_are_the_second_programs() {
     let limits = [
@@ -160,6 +160,13 @@ fn c_lays_the_structs_out_as_rust_does() {
     // every field of every struct has its line
     let fields: usize = source().structs.values().map(Vec::len).sum();
     assert_eq!(text.matches("(offsetof(").count(), fields, "a field has no line");
+    // and the header has its own for a C programmer, whatever Rust says
+    let header = file("include/rosadenca.h");
+    assert_eq!(
+        header.matches("\nROSADENCA_AT(").count(),
+        fields,
+        "the header tests not every field"
+    );
     if let Err(said) = compiles("layout.c", &text) {
         panic!("{said}");
     }

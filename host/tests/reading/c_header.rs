@@ -1,10 +1,17 @@
 //! What the C header declares, in the words of Rust: `const uint8_t *memory` is `memory: *const
-//! u8`, and `rosadenca_lent_ran` is `LentRan`.
+//! u8`, and `rosadenca_part` is `Part`.
 
 use super::{inside, one_line, Declared};
 
 /// C++ keeps the word `protected` for itself, so the header has another for that one field.
 const OTHER_WORDS: [(&str, &str); 1] = [("write_protected", "protected")];
+
+/// Structs that the source still calls otherwise.
+const OTHER_STRUCTS: [(&str, &str); 2] =
+    [("rosadenca_walked", "LentWalked"), ("rosadenca_ran", "LentRan")];
+
+/// What the header has a C compiler test; it declares nothing.
+const TESTS: [&str; 2] = ["ROSADENCA_HOLDS(", "ROSADENCA_AT("];
 
 /// Reads the header.
 pub fn declared(file: &str) -> Declared {
@@ -29,7 +36,8 @@ pub fn declared(file: &str) -> Declared {
     declared
 }
 
-/// The header without its comments, its lines for the preprocessor and its enums of constants.
+/// The header without its comments, its lines for the preprocessor, what it has the compiler test
+/// and its enums of constants.
 fn without_the_rest(file: &str) -> String {
     let mut text = String::new();
     let mut rest = file;
@@ -38,7 +46,8 @@ fn without_the_rest(file: &str) -> String {
         rest = after.split_once("*/").expect("a comment ends").1;
     }
     text.push_str(rest);
-    let kept = text.lines().filter(|line| !line.trim_start().starts_with('#'));
+    let is_test = |line: &str| TESTS.iter().any(|test| line.starts_with(test));
+    let kept = text.lines().filter(|line| !line.trim_start().starts_with('#') && !is_test(line));
     let mut text = kept.collect::<Vec<_>>().join("\n");
     while let Some(at) = text.find("enum {") {
         let end = at + text[at..].find(';').expect("an enum ends") + 1;
@@ -89,8 +98,11 @@ fn type_of(kind: &str) -> String {
     name.to_string()
 }
 
-/// `rosadenca_lent_ran` is `LentRan`.
+/// `rosadenca_part` is `Part`.
 fn struct_name(name: &str) -> Option<String> {
+    if let Some((_, other)) = OTHER_STRUCTS.iter().find(|(c, _)| *c == name) {
+        return Some(other.to_string());
+    }
     let words = name.strip_prefix("rosadenca_")?.split('_');
     Some(words.map(|word| word[..1].to_uppercase() + &word[1..]).collect())
 }
