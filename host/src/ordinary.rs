@@ -1,8 +1,9 @@
 //! A board written in the ordinary way in Rust, with the same replies and no proofs: what the
 //! firmware's speed is measured against, so it is as fast as plain code gets. It works in the lent
 //! table and copies none, tests sizes and table once a call, moves sectors that follow each other by
-//! one copy, and within a run never asks twice whether one command waits for another. The tests hold
-//! it to the second program.
+//! one copy, and within a run never asks twice whether one command waits for another. Its calls are
+//! not inlined, as the archive's cannot be, so that no caller's own numbers are worked into them. The
+//! tests hold it to the second program.
 
 use crate::declared::{Drive, LentRan, LentWalked, Part, Record};
 use crate::field::Fields;
@@ -157,6 +158,7 @@ fn record(memory: &[u8], bounds: &Bounds, drive: Drive, at: u32) -> Record {
 
 /// A refused walk leaves the table alone, so the chain is followed to its end before a record is
 /// written.
+#[inline(never)]
 pub fn walk(
     memory: &[u8],
     image: &[u8],
@@ -311,6 +313,7 @@ fn take(memory: &mut [u8], image: &mut [u8], drive: Drive, r: &mut Record, taken
     }
 }
 
+#[inline(never)]
 pub fn pick(
     memory: &mut [u8],
     image: &mut [u8],
@@ -337,6 +340,7 @@ pub fn pick(
 /// What two commands touch does not change in a run, and a finished command stays so. So the search
 /// at a place goes on where its last one stopped, and after a step there is none any more; and picks
 /// of one place that follow each other get one answer, as far as it has steps.
+#[inline(never)]
 pub fn run_picks(
     memory: &mut [u8],
     image: &mut [u8],
@@ -375,6 +379,7 @@ pub fn run_picks(
     ran
 }
 
+#[inline(never)]
 pub fn run_written(
     memory: &mut [u8],
     image: &mut [u8],
