@@ -5,7 +5,6 @@
 
 use host::copies::{count, Sizes};
 use host::speed::clock::measure;
-use host::speed::ground::Ground;
 use host::speed::page::{page, table, Row};
 use host::speed::works::all;
 use std::process::ExitCode;
@@ -27,7 +26,7 @@ fn main() -> ExitCode {
     let mut rows = Vec::new();
     for work in all() {
         eprintln!("speed: {} ..", work.name);
-        let times = measure(&mut Ground::new(work.count), &work.sides);
+        let times = measure(work.count, &work.sides);
         rows.push(Row { work, times });
     }
     print!("{}", table(&rows));

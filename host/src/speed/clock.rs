@@ -50,13 +50,18 @@ fn at_part(values: &[f64], part: f64) -> f64 {
     sorted[((sorted.len() - 1) as f64 * part).round() as usize]
 }
 
-/// Times all sides, in rounds.
-pub fn measure(ground: &mut Ground, sides: &[Side]) -> Vec<Times> {
+/// Times all sides, in rounds. Each round has a ground of its own, and all of them stay to the end,
+/// so that each lies elsewhere: with one ground for all, the ratio at 128 sectors a command moved by
+/// a twentieth from one run of the program to the next.
+pub fn measure(count: usize, sides: &[Side]) -> Vec<Times> {
     let mut times: Vec<Times> = sides.iter().map(|_| Times(Vec::new())).collect();
+    let mut grounds: Vec<Ground> = Vec::new();
     for _ in 0..ROUNDS {
-        for (time, fastest) in times.iter_mut().zip(round(ground, sides)) {
+        let mut ground = Ground::new(count);
+        for (time, fastest) in times.iter_mut().zip(round(&mut ground, sides)) {
             time.0.push(fastest);
         }
+        grounds.push(ground);
     }
     times
 }

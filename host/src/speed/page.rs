@@ -159,7 +159,7 @@ pub fn page(rows: &[Row], counted: &[Counted]) -> String {
          {table}\n\
          - Times are for one unit of the work: a run, a pick, a walk; 1,000 ns are 1 us, a millionth of a second. They \
          are the fastest of many batches in a round, and the median of {ROUNDS} rounds; the sides take turns on the same \
-         memory and image. A ratio is the median of the rounds' own ratios. In every row with \
+         memory and image, which are new in each round. A ratio is the median of the rounds' own ratios. In every row with \
          a goal the middle half of them lies within {:.1} %. That is for one build: where the linker lays the same code \
          has moved the walk in ordinary Rust between 265 and 340 ns on a Neoverse-V1.\n\
          - The firmware is target/native/libfirmware.a, called from Rust. On Arm it is the toolchain's own LLVM module, \
