@@ -1,9 +1,14 @@
 //! A board written in the ordinary way in Rust, with the same replies and no proofs: what the
-//! firmware's speed is measured against, so it is as fast as plain code gets. It works in the lent
-//! table and copies none, tests sizes and table once a call, moves sectors that follow each other by
-//! one copy, and within a run never asks twice whether one command waits for another. Its calls are
-//! not inlined, as the archive's cannot be, so that no caller's own numbers are worked into them. The
-//! tests hold it to the second program.
+//! firmware's speed is measured against, so it is written for speed as far as it stays easy to read.
+//! It works in the lent table and copies none, tests sizes and table once a call, moves sectors that
+//! follow each other by one copy, and within a run never asks twice whether one command waits for
+//! another. Its calls are not inlined, as the archive's cannot be, so that no caller's own numbers
+//! are worked into them. The tests hold it to the second program.
+//!
+//! Tried and left out: each field of the records in an array of its own, and for each place a mask of
+//! the earlier ones that it conflicts with, which the compiler works out several at a time. The run
+//! by picks of 32 commands, last to first, where alone it was tried, then took 1.9 us in place of 2.7;
+//! it was hard to read. Masks without such arrays were slower than none.
 
 use crate::declared::{Drive, LentRan, LentWalked, Part, Record};
 use crate::field::Fields;

@@ -168,8 +168,9 @@ pub fn page(rows: &[Row], counted: &[Counted]) -> String {
          which 128 sectors fill, so from 8 sectors on commands share their data area. A run tests sizes and table, moves \
          every sector and closes every command; the copy only moves the sectors. Places in turn: all picks of a place \
          before those of the next, since commands of 128 sectors all wait for each other.\n\
-         - \"Ordinary Rust\" is host/src/ordinary.rs: the same replies, written as fast as plain code gets, with no \
-         proofs. The second program is second/, which is plain and slow on purpose.\n\
+         - \"Ordinary Rust\" is host/src/ordinary.rs: the same replies with no proofs, written for speed as far as it \
+         stays easy to read; it says what faster form was left out. The second program is second/, which is plain and \
+         slow on purpose.\n\
          {}\n\
          ## How often a table is copied\n\n\
          `tools/copies` counts it in the compiled module, along the way through each function that has most: all bytes of a \
