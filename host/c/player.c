@@ -165,7 +165,7 @@ static bool play_lent(void)
 
 static bool walk(const char *word, size_t records)
 {
-    rosadenca_lent_walked walked =
+    rosadenca_walked walked =
         rosadenca_walk(memory, memory_length, image, image_length, drive, (uint32_t)number[0], table, records);
     commands = walked.commands;
     printf("%s %d %zu", word, walked.number, walked.commands);
@@ -194,7 +194,7 @@ static bool play_picks(void)
     uint8_t picks[MOST_NUMBERS];
     for (size_t k = 0; k < numbers; k++)
         picks[k] = (uint8_t)number[k];
-    rosadenca_lent_ran ran = rosadenca_run_picks(memory, memory_length, image, image_length, drive, table, BY_VALUE, commands, picks,
+    rosadenca_ran ran = rosadenca_run_picks(memory, memory_length, image, image_length, drive, table, BY_VALUE, commands, picks,
                                                  numbers);
     printf("picks %d %" PRIu64 " %" PRIu64 " %d", ran.number, ran.steps, ran.refused, ran.finished);
     print_digests();
@@ -203,7 +203,7 @@ static bool play_picks(void)
 
 static bool play_written(void)
 {
-    rosadenca_lent_ran ran = rosadenca_run_written(memory, memory_length, image, image_length, drive, table, BY_VALUE, commands,
+    rosadenca_ran ran = rosadenca_run_written(memory, memory_length, image, image_length, drive, table, BY_VALUE, commands,
                                                    number[0]);
     printf("written %d %" PRIu64 " %d", ran.number, ran.steps, ran.finished);
     print_digests();
