@@ -21,11 +21,12 @@ use Rattle.meaning.specs.Each.{someOf}
 use Rattle.meaning.specs.Command.{finished}
 use Rattle.meaning.specs.Pick.{waits, placeNumber}
 use Rattle.board.specs.Changes.{withTaken, RunTakes}
-use Rattle.board.proofs.Moving.{one-step, steps-small}
+use Rattle.board.proofs.Moving.{steps-small}
 use Rattle.board.proofs.Searching.{blocking, none-more, some-here, Searched, searched-to}
 use Rattle.board.proofs.Picking.{no-place, is-finished, has-to-wait, may-go}
 use Rattle.board.proofs.Taken.{length-with}
-use Rattle.board.proofs.ByPicks.{PicksLeft, picks-begin, in-use-few, at-place, pick-passed-over, pick-ready, pick-taken, all-picked, finished-by-count}
+use Rattle.board.proofs.ByPicks.{PicksLeft, picks-begin, in-use-few, at-place, searched-on, pick-passed-over, some-left, pick-ready, all-picked, finished-by-count}
+use Rattle.board.proofs.Again.{picks-in-a-row}
 use Rattle.board.proofs.run.picks_taken.Statement.{statement}
 use Rattle.board.proofs.run.picks_taken.Tie as tie
 
@@ -38,14 +39,14 @@ abbrev μ-loop : tie.MeasureT-loop
     32 - k
 
 abbrev Inv-loop2 : tie.InvT-loop2
-Inv-loop2 memory image d many commands picks table taken seen k number searched₀ steps passed₀ next place r earlier₀ searched passed earlier =
+Inv-loop2 memory image d many commands picks table taken seen k number searched₀ steps passed₀ next at place r earlier₀ searched passed earlier =
     (earlier ≤ place)
     × (searched ≡ searched₀)
     × (passed ≡ passed₀)
     × (someOf (blocking r) (take earlier (tableWith taken table)) ≡ false)
 
 abbrev μ-loop2 : tie.MeasureT-loop2
-μ-loop2 memory image d many commands picks table taken seen k number searched₀ steps passed₀ next place r earlier₀ searched passed earlier =
+μ-loop2 memory image d many commands picks table taken seen k number searched₀ steps passed₀ next at place r earlier₀ searched passed earlier =
     place - earlier
 
 abbrev Inv-picks : tie.InvT-picks
@@ -184,7 +185,7 @@ picks-again : tie.Need-picks-again Inv-loop μ-loop Inv-loop2 μ-loop2 Inv-picks
 picks-again c = let a = c .before .before .before .before .before .before .before .before .before .before .before .before .before .args in
     let l = c .before .before .before .picks in
     let p = getD (a .picks .now) (l .next) 0 in
-    pick-passed-over (a .d) (a .commands) (a .picks .now) (a .memory .now) (a .image .now) (a .t4) (l .memory) (l .image) (l .taken) (l .searched) (l .steps) (l .passed) (l .next) (l .inv) (l .searched) (l .inv .search) (c .before .before .picks-test .taken) (λ q. omega (arith, no-place (tableWith (l .taken) (a .t4)) (a .commands) p (c .if2 .taken), q))
+    pick-passed-over (a .d) (a .commands) (a .picks .now) (a .memory .now) (a .image .now) (a .t4) (l .memory) (l .image) (l .taken) (l .searched) (l .steps) (l .passed) (l .next) (l .inv) (c .before .before .picks-test .taken) (λ q. omega (arith, no-place (tableWith (l .taken) (a .t4)) (a .commands) p (c .if2 .taken), q))
 
 mul-with-taken : tie.Need-mul-with-taken Inv-loop μ-loop Inv-loop2 μ-loop2 Inv-picks μ-picks
 mul-with-taken c = omega (arith, in-table c)
@@ -216,7 +217,7 @@ picks-again-2 c = let a = c .before .before .before .before .before .before .bef
     let p = getD (a .picks .now) (l .next) 0 in
     let t = tableWith (l .taken) (a .t4) in
     let over = ap finished (sym (here (c .before .before))) ∙ sym (c .before .finished .ensures) ∙ (c .if3 .taken) in
-    pick-passed-over (a .d) (a .commands) (a .picks .now) (a .memory .now) (a .image .now) (a .t4) (l .memory) (l .image) (l .taken) (l .searched) (l .steps) (l .passed) (l .next) (l .inv) (l .searched) (l .inv .search) (c .before .before .before .before .before .before .picks-test .taken) (λ q. omega (arith, is-finished t (a .commands) p (c .before .before .before .before .if2 .left) over, q))
+    pick-passed-over (a .d) (a .commands) (a .picks .now) (a .memory .now) (a .image .now) (a .t4) (l .memory) (l .image) (l .taken) (l .searched) (l .steps) (l .passed) (l .next) (l .inv) (c .before .before .before .before .before .before .picks-test .taken) (λ q. omega (arith, is-finished t (a .commands) p (c .before .before .before .before .if2 .left) over, q))
 
 mul-earlier : tie.Need-mul-earlier Inv-loop μ-loop Inv-loop2 μ-loop2 Inv-picks μ-picks
 mul-earlier c = omega (arith, in-table (c .before .before .before .before))
@@ -274,7 +275,7 @@ picks-again-3 c = let a = c .before .before .before .before .before .before .bef
     let to = searched-to t (l .searched) p (e .earlier) (l .inv .search) (in-table (c .before .before .before .before .before .before .before .before .before .before)) (e .inv .0) (clear (c .before .before .before .before .before)) in
     subst (λ (x : List ℕ). PicksLeft (a .d) (a .commands) (a .picks .now) (a .memory .now) (a .image .now) (a .t4) (l .memory) (l .image) (l .taken) (set x p (e .earlier)) (l .steps) (e .passed + 1) (l .next + 1)) (sym (e .inv .1))
     (subst (λ (x : ℕ). PicksLeft (a .d) (a .commands) (a .picks .now) (a .memory .now) (a .image .now) (a .t4) (l .memory) (l .image) (l .taken) (set (l .searched) p (e .earlier)) (l .steps) (x + 1) (l .next + 1)) (sym (e .inv .2))
-    (pick-passed-over (a .d) (a .commands) (a .picks .now) (a .memory .now) (a .image .now) (a .t4) (l .memory) (l .image) (l .taken) (l .searched) (l .steps) (l .passed) (l .next) (l .inv) (set (l .searched) p (e .earlier)) to (c .before .before .before .before .before .before .before .before .before .before .before .before .picks-test .taken) (λ q. omega (arith, six, q))))
+    (pick-passed-over (a .d) (a .commands) (a .picks .now) (a .memory .now) (a .image .now) (a .t4) (l .memory) (l .image) (l .taken) (set (l .searched) p (e .earlier)) (l .steps) (l .passed) (l .next) (searched-on (a .d) (a .commands) (a .picks .now) (a .memory .now) (a .image .now) (a .t4) (l .memory) (l .image) (l .taken) (l .searched) (l .steps) (l .passed) (l .next) (l .inv) (set (l .searched) p (e .earlier)) to) (c .before .before .before .before .before .before .before .before .before .before .before .before .picks-test .taken) (λ q. omega (arith, six, q))))
 
 add-earlier : tie.Need-add-earlier Inv-loop μ-loop Inv-loop2 μ-loop2 Inv-picks μ-picks
 add-earlier c = omega (arith, in-table (c .before .before .before .before .before .before .before .before .before .before))
@@ -295,42 +296,63 @@ mul-searched-2 c = omega (arith, in-table (c .before .before .before .before .be
 array-write-searched-2 : tie.Need-array-write-searched-2 Inv-loop μ-loop Inv-loop2 μ-loop2 Inv-picks μ-picks
 array-write-searched-2 c = let e = ap length (c .before .loop2 .inv .1) in omega (arith, in-table (c .before .before .before .before .before .before), (c .before .before .before .before .before .before .before .before .before .picks .inv .search .long))
 
+remaining-requires : tie.Need-remaining-requires Inv-loop μ-loop Inv-loop2 μ-loop2 Inv-picks μ-picks
+remaining-requires c κs = search needs
+
+picks-alike-requires : tie.Need-picks-alike-requires Inv-loop μ-loop Inv-loop2 μ-loop2 Inv-picks μ-picks
+picks-alike-requires c κs = let a = c .before .before .before .before .before .before .before .before .before .before .before .before .before .before .before .before .before .before .before .before .args in
+    let l = c .before .before .before .before .before .before .before .before .before .before .picks in
+    ((c .before .before .before .before .before .before .before .before .before .picks-test .taken), rw (c .remaining .ensures) (some-left (a .d) (a .commands) (a .picks .now) (a .memory .now) (a .image .now) (a .t4) (l .memory) (l .image) (l .taken) (l .searched) (l .steps) (l .passed) (l .next) (l .inv) (c .before .before .before .before .before .with-taken .result) (here (c .before .before .before .before .before)) (in-table (c .before .before .before .before .before .before .before)) (free (c .before))))
+
 take-steps-requires : tie.Need-take-steps-requires Inv-loop μ-loop Inv-loop2 μ-loop2 Inv-picks μ-picks
-take-steps-requires c κs = let a = c .before .before .before .before .before .before .before .before .before .before .before .before .before .before .before .before .before .before .before .before .before .args in
-    let l = c .before .before .before .before .before .before .before .before .before .before .before .picks in
-    pick-ready (a .d) (a .commands) (a .picks .now) (a .memory .now) (a .image .now) (a .t4) (l .memory) (l .image) (l .taken) (l .searched) (l .steps) (l .passed) (l .next) (l .inv) (c .before .before .before .before .before .before .with-taken .result) (here (c .before .before .before .before .before .before)) (in-table (c .before .before .before .before .before .before .before .before)) (free (c .before .before))
+take-steps-requires c κs = let a = c .before .before .before .before .before .before .before .before .before .before .before .before .before .before .before .before .before .before .before .before .before .before .before .args in
+    let l = c .before .before .before .before .before .before .before .before .before .before .before .before .before .picks in
+    let few = rw (c .before .before .before .remaining .ensures) at (c .before .before .picks-alike .ensures .few) in
+    (few, pick-ready (a .d) (a .commands) (a .picks .now) (a .memory .now) (a .image .now) (a .t4) (l .memory) (l .image) (l .taken) (l .searched) (l .steps) (l .passed) (l .next) (l .inv) (c .before .before .before .before .before .before .before .before .with-taken .result) (here (c .before .before .before .before .before .before .before .before)) (in-table (c .before .before .before .before .before .before .before .before .before .before)) (free (c .before .before .before .before)) (c .before .before .picks-alike .result) few)
 
 add-taken : tie.Need-add-taken Inv-loop μ-loop Inv-loop2 μ-loop2 Inv-picks μ-picks
 unfolding remaining
-add-taken c = let a = c .before .before .before .before .before .before .before .before .before .before .before .before .before .before .before .before .before .before .before .before .before .before .before .before .before .before .before .args in
-    let l = c .before .before .before .before .before .before .before .before .before .before .before .before .before .before .before .before .before .picks in
-    let some = pick-ready (a .d) (a .commands) (a .picks .now) (a .memory .now) (a .image .now) (a .t4) (l .memory) (l .image) (l .taken) (l .searched) (l .steps) (l .passed) (l .next) (l .inv) (c .before .before .before .before .before .before .before .before .before .before .before .before .with-taken .result) (here (c .before .before .before .before .before .before .before .before .before .before .before .before)) (in-table (c .before .before .before .before .before .before .before .before .before .before .before .before .before .before)) (free (c .before .before .before .before .before .before .before .before)) .0 in
-    omega (arith, some, steps-small (c .before .before .before .before .before .before .before .before .before .before .before .before .with-taken .result) (omega arith))
+add-taken c = let a = c .before .before .before .before .before .before .before .before .before .before .before .before .before .before .before .before .before .before .before .before .before .before .before .before .before .before .before .before .before .args in
+    let l = c .before .before .before .before .before .before .before .before .before .before .before .before .before .before .before .before .before .before .before .picks in
+    let few = rw (c .before .before .before .before .before .before .before .before .before .remaining .ensures) at (c .before .before .before .before .before .before .before .before .picks-alike .ensures .few) in
+    omega (arith, few, steps-small (c .before .before .before .before .before .before .before .before .before .before .before .before .before .before .with-taken .result) (omega arith))
 
 mul-taken-2 : tie.Need-mul-taken-2 Inv-loop μ-loop Inv-loop2 μ-loop2 Inv-picks μ-picks
-mul-taken-2 c = omega (arith, in-table (c .before .before .before .before .before .before .before .before .before .before .before .before .before .before))
+mul-taken-2 c = omega (arith, in-table (c .before .before .before .before .before .before .before .before .before .before .before .before .before .before .before .before))
 
 array-write-taken-2 : tie.Need-array-write-taken-2 Inv-loop μ-loop Inv-loop2 μ-loop2 Inv-picks μ-picks
-array-write-taken-2 c = omega (arith, in-table (c .before .before .before .before .before .before .before .before .before .before .before .before .before .before), (c .before .before .before .before .before .before .before .before .before .before .before .before .before .before .before .before .before .picks .inv .long))
+array-write-taken-2 c = omega (arith, in-table (c .before .before .before .before .before .before .before .before .before .before .before .before .before .before .before .before), (c .before .before .before .before .before .before .before .before .before .before .before .before .before .before .before .before .before .before .before .picks .inv .long))
+
+cast-steps : tie.Need-cast-steps Inv-loop μ-loop Inv-loop2 μ-loop2 Inv-picks μ-picks
+cast-steps c = search needs
 
 add-steps : tie.Need-add-steps Inv-loop μ-loop Inv-loop2 μ-loop2 Inv-picks μ-picks
-add-steps c = omega (arith, (c .before .before .before .before .before .before .before .before .before .before .before .before .before .before .before .before .before .picks .inv .counted), (c .before .before .before .before .before .before .before .before .before .before .before .before .before .before .before .before .before .picks .inv .most), (c .before .before .before .before .before .before .before .before .before .before .before .before .before .before .before .before .before .before .before .before .before .before .before .before .before .before .before .good))
+add-steps c = omega (arith, (c .before .before .before .before .before .before .before .before .picks-alike .ensures .there), (c .before .before .before .before .before .before .before .before .before .before .before .before .before .before .before .before .before .before .before .picks .inv .counted), (c .before .before .before .before .before .before .before .before .before .before .before .before .before .before .before .before .before .before .before .picks .inv .most), (c .before .before .before .before .before .before .before .before .before .before .before .before .before .before .before .before .before .before .before .before .before .before .before .before .before .before .before .before .before .good))
+
+cast-next : tie.Need-cast-next Inv-loop μ-loop Inv-loop2 μ-loop2 Inv-picks μ-picks
+cast-next c = search needs
+
+add-next-2 : tie.Need-add-next-2 Inv-loop μ-loop Inv-loop2 μ-loop2 Inv-picks μ-picks
+add-next-2 c = omega (arith, (c .before .before .before .before .before .before .before .before .picks-alike .ensures .there), (c .before .before .before .before .before .before .before .before .before .before .before .before .before .before .before .before .before .before .before .before .before .before .before .before .before .before .before .before .before .good))
 
 picks-less-4 : tie.Need-picks-less-4 Inv-loop μ-loop Inv-loop2 μ-loop2 Inv-picks μ-picks
-picks-less-4 c = omega (arith, (c .before .before .before .before .before .before .before .before .before .before .before .before .before .before .before .before .picks-test .taken))
+picks-less-4 c = omega (arith, (c .before .before .before .before .before .before .before .before .before .before .before .before .before .before .before .before .before .before .picks-test .taken), (c .before .before .before .before .before .before .before .before .picks-alike .ensures .some), (c .before .before .before .before .before .before .before .before .picks-alike .ensures .there))
 
 picks-again-4 : tie.Need-picks-again-4 Inv-loop μ-loop Inv-loop2 μ-loop2 Inv-picks μ-picks
-picks-again-4 c = let a = c .before .before .before .before .before .before .before .before .before .before .before .before .before .before .before .before .before .before .before .before .before .before .before .before .before .before .before .args in
-    let l = c .before .before .before .before .before .before .before .before .before .before .before .before .before .before .before .before .before .picks in
+picks-again-4 c = let a = c .before .before .before .before .before .before .before .before .before .before .before .before .before .before .before .before .before .before .before .before .before .before .before .before .before .before .before .before .before .args in
+    let l = c .before .before .before .before .before .before .before .before .before .before .before .before .before .before .before .before .before .before .before .picks in
     let p = getD (a .picks .now) (l .next) 0 in
     let t = tableWith (l .taken) (a .t4) in
-    let e = c .before .before .before .before .before .before .before .before .before .loop2 in
+    let e = c .before .before .before .before .before .before .before .before .before .before .before .loop2 in
     let v = c .before .before .before .before .before .take-steps in
-    let r = c .before .before .before .before .before .before .before .before .before .before .before .before .with-taken .result in
-    let to = searched-to t (l .searched) p (e .earlier) (l .inv .search) (in-table (c .before .before .before .before .before .before .before .before .before .before .before .before .before .before)) (e .inv .0) (clear (c .before .before .before .before .before .before .before .before .before)) in
-    subst (λ (x : List ℕ). PicksLeft (a .d) (a .commands) (a .picks .now) (a .memory .now) (a .image .now) (a .t4) (v .last .0) (v .last .1 .0) (set (l .taken) p (r .taken + 1)) (set x p (e .earlier)) (l .steps + 1) (e .passed) (l .next + 1)) (sym (e .inv .1))
-    (subst (λ (x : ℕ). PicksLeft (a .d) (a .commands) (a .picks .now) (a .memory .now) (a .image .now) (a .t4) (v .last .0) (v .last .1 .0) (set (l .taken) p (r .taken + 1)) (set (l .searched) p (e .earlier)) (l .steps + 1) x (l .next + 1)) (sym (e .inv .2))
-    (pick-taken (a .d) (a .commands) (a .picks .now) (a .memory .now) (a .image .now) (a .t4) (l .memory) (l .image) (l .taken) (l .searched) (l .steps) (l .passed) (l .next) (l .inv) r (here (c .before .before .before .before .before .before .before .before .before .before .before .before)) (in-table (c .before .before .before .before .before .before .before .before .before .before .before .before .before .before)) (v .last .0) (v .last .1 .0) (set (l .searched) p (e .earlier)) to (c .before .before .before .before .before .before .before .before .before .before .before .before .before .before .before .before .picks-test .taken) (free (c .before .before .before .before .before .before .before .before)) (v .ensures ∙ one-step (a .d) r (lent (l .memory) (l .image)))))
+    let r = c .before .before .before .before .before .before .before .before .before .before .before .before .before .before .with-taken .result in
+    let n = c .before .before .before .before .before .before .before .before .picks-alike in
+    let few = rw (c .before .before .before .before .before .before .before .before .before .remaining .ensures) at (c .before .before .before .before .before .before .before .before .picks-alike .ensures .few) in
+    let to = searched-to t (l .searched) p (e .earlier) (l .inv .search) (in-table (c .before .before .before .before .before .before .before .before .before .before .before .before .before .before .before .before)) (e .inv .0) (clear (c .before .before .before .before .before .before .before .before .before .before .before)) in
+    subst (λ (x : List ℕ). PicksLeft (a .d) (a .commands) (a .picks .now) (a .memory .now) (a .image .now) (a .t4) (v .last .0) (v .last .1 .0) (set (l .taken) p (r .taken + n .result)) (set x p (e .earlier)) (l .steps + n .result) (e .passed) (l .next + n .result)) (sym (e .inv .1))
+    (subst (λ (x : ℕ). PicksLeft (a .d) (a .commands) (a .picks .now) (a .memory .now) (a .image .now) (a .t4) (v .last .0) (v .last .1 .0) (set (l .taken) p (r .taken + n .result)) (set (l .searched) p (e .earlier)) (l .steps + n .result) x (l .next + n .result)) (sym (e .inv .2))
+    (picks-in-a-row (a .d) (a .commands) (a .picks .now) (a .memory .now) (a .image .now) (a .t4) (set (l .searched) p (e .earlier)) (l .passed) p (in-table (c .before .before .before .before .before .before .before .before .before .before .before .before .before .before .before .before)) (n .result) (l .memory) (l .image) (l .taken) (l .steps) (l .next) r (v .last .0) (v .last .1 .0)
+    (searched-on (a .d) (a .commands) (a .picks .now) (a .memory .now) (a .image .now) (a .t4) (l .memory) (l .image) (l .taken) (l .searched) (l .steps) (l .passed) (l .next) (l .inv) (set (l .searched) p (e .earlier)) to) (here (c .before .before .before .before .before .before .before .before .before .before .before .before .before .before)) (λ _. free (c .before .before .before .before .before .before .before .before .before .before)) few (n .ensures .there) (n .ensures .same) (v .ensures)))
 
 same-length-3 : tie.Need-same-length-3 Inv-loop μ-loop Inv-loop2 μ-loop2 Inv-picks μ-picks
 same-length-3 c = (c .before .before .picks .inv .memory-length)
@@ -406,11 +428,16 @@ picks-taken-spec =
     loop2-again
     mul-searched-2
     array-write-searched-2
+    remaining-requires
+    picks-alike-requires
     take-steps-requires
     add-taken
     mul-taken-2
     array-write-taken-2
+    cast-steps
     add-steps
+    cast-next
+    add-next-2
     picks-less-4
     picks-again-4
     same-length-3
