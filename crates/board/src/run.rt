@@ -116,16 +116,12 @@ fn picks_alike(picks: &[u8], from: usize, left: u32) -> u32
     ensures { λ n. ⌜ Alike (now (picks .entry)) from left n ⌝ }
 {
     let place = picks[from];
+    let most = fewer((picks.len() - from) as u64, left);
     let mut n = 1;
-    let mut at = from + 1;
-    while n < left {
-        if picks.len() <= at {
+    while n < most {
+        if picks[from + n as usize] != place {
             return n;
         }
-        if picks[at] != place {
-            return n;
-        }
-        at += 1;
         n += 1;
     }
     n
