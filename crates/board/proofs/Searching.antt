@@ -15,7 +15,7 @@ use Rattle.meaning.specs.Command.{stepsOf, finished, noRecord}
 use Rattle.meaning.specs.Touch.{touched, conflict}
 use Rattle.meaning.specs.Step.{stepped}
 use Rattle.meaning.specs.Pick.{waits}
-use Rattle.meaning.proofs.Rows.{or-none, or-false}
+use Rattle.meaning.proofs.Rows.{or-none, or-false, and-first, and-second}
 use Rattle.meaning.proofs.Tests.{and-no, and-false}
 use Rattle.meaning.proofs.Means.{Means, holds, fails, is-true, means-itself, means-eq, means-some}
 
@@ -50,6 +50,13 @@ module _ {A : Type 0} (z : A) (f : A → Bool) where
 -- an earlier command e makes r wait
 abbrev pub blocking : Record → Record → Bool
 blocking r e = not (finished e) && conflict e r
+
+-- a finished command blocks nothing, and any other by its conflict
+pub finished-free : (r e : Record) → finished e ≡ true → blocking r e ≡ false
+finished-free r e f = and-first (not (finished e)) (conflict e r) (ap not f)
+
+pub by-conflict : (r e : Record) (b : Bool) → finished e ≡ false → conflict e r ≡ b → blocking r e ≡ b
+by-conflict r e b f c = and-second (not (finished e)) (conflict e r) (ap not f) ∙ c
 
 -- what r touches does not change with its steps
 stepped-waits : (r : Record) → blocking (stepped r) ≡ blocking r

@@ -4,6 +4,7 @@ use crate::RECORDS;
 use crate::command;
 use crate::pick;
 use crate::step;
+use crate::touch;
 use meaning::Drive;
 use meaning::Ran;
 use meaning::RanTable;
@@ -181,7 +182,12 @@ pub fn picks_taken(
         }
         let mut earlier = searched[place];
         while earlier < place {
-            if pick::blocks(command::with_taken(table[earlier], taken[earlier]), r) {
+            let e = command::with_taken(table[earlier], taken[earlier]);
+            if command::finished(e) {
+                earlier += 1;
+                continue;
+            }
+            if touch::conflict(e, r) {
                 searched[place] = earlier;
                 passed += 1;
                 continue 'picks;
