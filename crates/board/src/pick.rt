@@ -9,14 +9,12 @@ use meaning::Drive;
 use meaning::PickedTable;
 use meaning::Record;
 ghost use mathlib.Core.Path.{_≡_};
-ghost use mathlib.Core.Bool.{not, _&&_, _||_};
+ghost use mathlib.Core.Bool.{_||_};
 ghost use mathlib.Core.List.{[]};
 ghost use lib.Dec.{ltb};
 ghost use Rattle.meaning.specs.Store.{lent};
 ghost use Rattle.meaning.specs.State.{stateOf, mostCommands};
 ghost use Rattle.meaning.specs.Sizes.{storeWrong};
-ghost use Rattle.meaning.specs.Command.{finished};
-ghost use Rattle.meaning.specs.Touch.{conflict};
 ghost use Rattle.meaning.specs.Pick as pick;
 ghost use Rattle.board.specs.Changes.{PickChanges, refusedPick};
 
@@ -88,16 +86,6 @@ pub(crate) fn bad_record(memory: &[u8], d: Drive, r: Record) -> bool
     false
 }
 
-// An earlier command e is unfinished and conflicts with r (Pick 6).
-pub(crate) fn blocks(e: Record, r: Record) -> bool
-    ensures { λ b. ⌜ b ≡ (not (finished e) && conflict e r) ⌝ }
-{
-    if command::finished(e) {
-        return false;
-    }
-    touch::conflict(e, r)
-}
-
 // A pick beneath both faces: `length` is how many records the caller's table has, of which these are the first. Both loops that read the
 // table stand here, since a table that is passed on is copied.
 pub fn pick_record(
@@ -133,7 +121,12 @@ pub fn pick_record(
     }
     let mut earlier = 0;
     while earlier < place {
-        if blocks(table[earlier], r) {
+        let e = table[earlier];
+        if command::finished(e) {
+            earlier += 1;
+            continue;
+        }
+        if touch::conflict(e, r) {
             return refused(6);
         }
         earlier += 1;

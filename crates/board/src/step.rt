@@ -82,7 +82,8 @@ pub(crate) fn take_steps(memory: &mut [u8], image: &mut [u8], d: Drive, r: Recor
         return;
     }
     move_sectors(memory, image, r, n);
-    if n == command::remaining(r) {
+    let left = command::remaining(r) - n;
+    if left == 0 {
         close(memory, d, r);
         return;
     }
