@@ -1,0 +1,6 @@
+-- A walk by hand goes through a function's code statement by statement, in the toolchain's calculus (its `Types/Kit` and `Types/Run`).
+-- What every such walk does in the same way stands here: its locals come and go all at once, a covered function is called, a walk is
+-- taken to the function's contract, and a lent slice is lent again.
+pub mod Frame
+pub mod Calls
+pub mod Contracts
