@@ -1,5 +1,1 @@
-pub mod Lent
 pub mod Laid
-pub mod Looked
-pub mod Agree
-pub mod OneReply
