@@ -4,7 +4,7 @@
 use mathlib.Core.Path.{_≡_}
 use Prim.Native.Nat.{ℕ}
 use mathlib.Core.Bool.{false, cond}
-use mathlib.Core.List.{List, [], _∷_, map}
+use mathlib.Core.List.{List, [], _∷_}
 use lib.ListN.{getD, take}
 use lib.Dec.{eqb}
 use Rattle.meaning.specs.declared.Drive.{Drive}
@@ -15,7 +15,7 @@ use Rattle.meaning.specs.State.{State}
 use Rattle.meaning.specs.Command.{noRecord}
 use Rattle.meaning.specs.Step.{stepped}
 use Rattle.meaning.specs.Pick.{pickNumber, picked}
-use Rattle.meaning.specs.Run.{Tally, runNumber, ranTo, RunGives}
+use Rattle.meaning.specs.Run.{Tally, runNumber, ranTo, runReply}
 use Rattle.board.specs.declared.pick.PickedRecord.{PickedRecord}
 use Rattle.board.specs.declared.run.RanTaken.{RanTaken}
 
@@ -40,8 +40,10 @@ tableWith [] t = t
 tableWith (n ∷ ns) [] = []
 tableWith (n ∷ ns) (r ∷ t) = withTaken n r ∷ tableWith ns t
 
+-- the steps taken of each record
 abbrev pub takenOf : List Record → List ℕ
-takenOf t = map (λ r. r .taken) t
+takenOf [] = []
+takenOf (r ∷ t) = r .taken ∷ takenOf t
 
 -- ---- what is handed on of the caller's state
 
@@ -71,14 +73,17 @@ PickChanges d n p length s r u =
 abbrev pub refusedRun : ℕ → Ran
 refusedRun k = record { steps = 0; refused = 0; number = k; finished = false }
 
--- the steps taken of the 32 records: those after the run, or on a refusal those before it
-unfoldable pub takenAfter : Drive → ℕ → (State → Tally) → ℕ → State → List ℕ
-unfolding runNumber ranTo
-takenAfter d n go length s =
+-- its answer, and the steps taken of the 32 records: those after it, or on a refusal those before it
+unfoldable pub runTakes : Drive → ℕ → (State → Tally) → ℕ → State → RanTaken
+unfolding runNumber ranTo runReply
+runTakes d n go length s =
     let u = handed length s in
-    takenOf (cond (eqb (runNumber d n u) 0) (ranTo d n go u .state .table) (s .table))
+    record {
+      ran = runReply d n go u;
+      taken = takenOf (cond (eqb (runNumber d n u) 0) (ranTo d n go u .state .table) (s .table));
+    }
 
--- The run's answer and the store after it, and a table that differs from the one before in nothing but the steps taken.
-pub record RunTakes (d : Drive) (n : ℕ) (go : State → Tally) (length : ℕ) (s : State) (r : RanTaken) (u : Store) : Type 0 where
-  pub gives : RunGives d n go (handed length s) (r .ran) (record { table = tableWith (r .taken) (handed length s .table); store = u })
-  pub taken : r .taken ≡ takenAfter d n go length s
+unfoldable pub RunTakes : Drive → ℕ → (State → Tally) → ℕ → State → RanTaken → Store → Type 0
+unfolding runTakes ranTo
+RunTakes d n go length s r u =
+    (r ≡ runTakes d n go length s) × (u ≡ ranTo d n go (handed length s) .state .store)

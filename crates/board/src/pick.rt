@@ -157,9 +157,10 @@ pub fn pick(
     ensures { λ r. ⌜ pick.PickGives d commands place (stateOf (now (memory .entry)) (now (image .entry)) table) (r .number) (stateOf (now (memory .exit)) (now (image .exit)) (r .table)) ⌝ }
 {
     let picked = pick_record(memory, image, d, table, RECORDS, commands, place);
+    let stepped = picked.after;
     let mut after = table;
     if picked.number == 0 {
-        after[place] = picked.after;
+        after[place] = stepped;
     }
     PickedTable {
         number: picked.number,

@@ -34,13 +34,22 @@ pub struct Seen {
 fn with_record(seen: Seen, memory: &[u8], d: Drive, r: Record, in_use: bool) -> Seen
     requires { ⌜ seen .left ≤ 4_294_967_296 * 4_294_967_295 ⌝ }
     ensures { λ s. ⌜ s ≡ seenWith d (lent (now (memory .entry)) []) in_use r seen ⌝ }
+    ensures within { λ s. ⌜ s .left ≤ seen .left + 4_294_967_295 ⌝ }
 {
     if !in_use {
         return seen;
     }
     let left = seen.left + command::remaining(r) as u64;
-    let spoiled = seen.spoiled || pick::bad_record(memory, d, r);
-    Seen { left, spoiled }
+    if seen.spoiled {
+        return Seen {
+            left,
+            spoiled: true,
+        };
+    }
+    Seen {
+        left,
+        spoiled: pick::bad_record(memory, d, r),
+    }
 }
 
 // Numbers 1 and 9, which both runs test first.

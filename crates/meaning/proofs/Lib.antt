@@ -15,5 +15,6 @@ pub mod Looks
 pub mod Conflict
 pub mod Records
 pub mod Numbers
+pub mod Counts
 pub mod Still
 pub mod Walks

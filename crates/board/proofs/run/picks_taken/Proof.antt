@@ -1,0 +1,418 @@
+-- `board::run::picks_taken` meets its contract: its first loop keeps `Opened` and its second `PicksLeft`; the search in it decides whether
+-- the pick waits.
+use mathlib.Core.Path.{_≡_, refl, sym, ap, _∙_, subst}
+use Prim.Native.Nat.{ℕ, _+_, _≤_, _<_, _-_, min}
+use native.Mathlib.Omega.{arith}
+use mathlib.Core.Bool.{Bool, false}
+use mathlib.Core.List.{List}
+use lib.ListN.{length, getD, take, set}
+use borrow.Author.Needs.{needs}
+use Rattle.meaning.specs.declared.Record.{Record}
+use Rattle.meaning.specs.Store.{lent}
+use Rattle.meaning.specs.State.{stateOf, mostCommands}
+use Rattle.meaning.specs.Command.{remaining, noRecord}
+use Rattle.meaning.specs.Run.{runNumber, byPicks}
+use Rattle.board.specs.Changes.{tableWith, takenOf, handed}
+use Rattle.board.proofs.Opening.{Opened, opened-begin, opened-more, all-taken, all-left, number-is, whole-handed, run-goes}
+use Rattle.board.proofs.Runs.{refused-takes, accepted-takes}
+use lib.Dec.{eqb}
+use Rattle.meaning.specs.declared.Ran.{Ran}
+use Rattle.meaning.specs.Each.{someOf}
+use Rattle.meaning.specs.Command.{finished}
+use Rattle.meaning.specs.Pick.{waits, placeNumber}
+use Rattle.board.specs.Changes.{withTaken, RunTakes}
+use Rattle.board.proofs.Moving.{one-step, steps-small}
+use Rattle.board.proofs.Searching.{blocking, none-more, some-here, Searched, searched-to}
+use Rattle.board.proofs.Picking.{no-place, is-finished, has-to-wait, may-go}
+use Rattle.board.proofs.Taken.{length-with}
+use Rattle.board.proofs.ByPicks.{PicksLeft, picks-begin, in-use-few, at-place, pick-passed-over, pick-ready, pick-taken, all-picked, finished-by-count}
+use Rattle.board.proofs.run.picks_taken.Statement.{statement}
+use Rattle.board.proofs.run.picks_taken.Tie as tie
+
+abbrev Inv-loop : tie.InvT-loop
+Inv-loop memory image d many commands picks table taken₀ seen₀ k₀ taken seen k =
+    Opened d commands (stateOf memory image table) taken seen k
+
+abbrev μ-loop : tie.MeasureT-loop
+μ-loop memory image d many commands picks table taken₀ seen₀ k₀ taken seen k =
+    32 - k
+
+abbrev Inv-loop2 : tie.InvT-loop2
+Inv-loop2 memory image d many commands picks table taken seen k number searched₀ steps passed₀ next place r earlier₀ searched passed earlier =
+    (earlier ≤ place)
+    × (searched ≡ searched₀)
+    × (passed ≡ passed₀)
+    × (someOf (blocking r) (take earlier (tableWith taken table)) ≡ false)
+
+abbrev μ-loop2 : tie.MeasureT-loop2
+μ-loop2 memory image d many commands picks table taken seen k number searched₀ steps passed₀ next place r earlier₀ searched passed earlier =
+    place - earlier
+
+abbrev Inv-picks : tie.InvT-picks
+Inv-picks memory₀ image₀ d many commands picks table taken₀ seen k number searched₀ steps₀ passed₀ next₀ memory image taken searched steps passed next =
+    PicksLeft d commands picks memory₀ image₀ table memory image taken searched steps passed next
+
+abbrev μ-picks : tie.MeasureT-picks
+μ-picks memory₀ image₀ d many commands picks table taken₀ seen k number searched₀ steps₀ passed₀ next₀ memory image taken searched steps passed next =
+    length picks - next
+
+-- past the first loop a run that is not refused has been handed all of its table, and goes
+whole : (c : tie.Else1 Inv-loop μ-loop Inv-loop2 μ-loop2 Inv-picks μ-picks) → let a = (c .before .before .before .before .before .before .before .before .before .args) in let s = stateOf (a .memory .now) (a .image .now) (a .t4) in handed (a .length) s ≡ s
+whole c = let a = c .before .before .before .before .before .before .before .before .before .args in
+    let l = c .before .before .before .before .before .loop in
+    whole-handed (a .d) (a .commands) (a .memory .now) (a .image .now) (a .t4) (l .taken) (l .seen) (l .k) (l .inv) (c .before .before .before .before .loop-test .left) (a .length) (c .before .first-number .result) (c .before .first-number .ensures) (c .if1 .left)
+
+goes : (c : tie.Else1 Inv-loop μ-loop Inv-loop2 μ-loop2 Inv-picks μ-picks) → let a = (c .before .before .before .before .before .before .before .before .before .args) in runNumber (a .d) (a .commands) (stateOf (a .memory .now) (a .image .now) (a .t4)) ≡ 0
+goes c = let a = c .before .before .before .before .before .before .before .before .before .args in
+    let l = c .before .before .before .before .before .loop in
+    run-goes (a .d) (a .commands) (a .memory .now) (a .image .now) (a .t4) (l .taken) (l .seen) (l .k) (l .inv) (c .before .before .before .before .loop-test .left) (a .length) (c .before .first-number .result) (c .before .first-number .ensures) (c .if1 .left)
+
+-- the place that is picked is one of the 32
+in-table : (c : tie.Else2 Inv-loop μ-loop Inv-loop2 μ-loop2 Inv-picks μ-picks) → getD (c .before .before .before .before .before .before .before .before .before .before .before .before .before .args .picks .now) (c .before .before .before .picks .next) 0 < mostCommands
+in-table c = let a = c .before .before .before .before .before .before .before .before .before .before .before .before .before .args in
+    let l = c .before .before .before .picks in
+    let few = in-use-few (a .d) (a .commands) (a .picks .now) (a .memory .now) (a .image .now) (a .t4) (l .memory) (l .image) (l .taken) (l .searched) (l .steps) (l .passed) (l .next) (l .inv) in
+    omega (arith, few, (c .if2 .left))
+
+-- the record at the place that is picked, and the one that the search has come to
+here : (c : tie.After-with-taken Inv-loop μ-loop Inv-loop2 μ-loop2 Inv-picks μ-picks) → let a = (c .before .before .before .before .before .before .before .before .before .before .before .before .before .before .before .args) in let l = (c .before .before .before .before .before .picks) in (c .with-taken .result) ≡ getD (tableWith (l .taken) (a .t4)) (getD (a .picks .now) (l .next) 0) noRecord
+here c = let a = c .before .before .before .before .before .before .before .before .before .before .before .before .before .before .before .args in
+    let l = c .before .before .before .before .before .picks in
+    (c .with-taken .ensures) ∙ at-place (a .d) (a .commands) (a .picks .now) (a .memory .now) (a .image .now) (a .t4) (l .memory) (l .image) (l .taken) (l .searched) (l .steps) (l .passed) (l .next) (l .inv) (getD (a .picks .now) (l .next) 0) (in-table (c .before .before))
+
+there : (c : tie.After-with-taken2 Inv-loop μ-loop Inv-loop2 μ-loop2 Inv-picks μ-picks) → let a = (c .before .before .before .before .before .before .before .before .before .before .before .before .before .before .before .before .before .before .before .before .before .args) in let l = (c .before .before .before .before .before .before .before .before .before .before .before .picks) in (c .with-taken2 .result) ≡ getD (tableWith (l .taken) (a .t4)) (c .before .before .before .loop2 .earlier) noRecord
+there c = let a = c .before .before .before .before .before .before .before .before .before .before .before .before .before .before .before .before .before .before .before .before .before .args in
+    let l = c .before .before .before .before .before .before .before .before .before .before .before .picks in
+    (c .with-taken2 .ensures) ∙ at-place (a .d) (a .commands) (a .picks .now) (a .memory .now) (a .image .now) (a .t4) (l .memory) (l .image) (l .taken) (l .searched) (l .steps) (l .passed) (l .next) (l .inv) (c .before .before .before .loop2 .earlier) (let h = in-table (c .before .before .before .before .before .before .before .before) in let b = (c .before .before .loop2-test .taken) in omega arith)
+
+inside : (c : tie.In-loop2 Inv-loop μ-loop Inv-loop2 μ-loop2 Inv-picks μ-picks) → let a = (c .before .before .before .before .before .before .before .before .before .before .before .before .before .before .before .before .before .before .before .args) in let l = (c .before .before .before .before .before .before .before .before .before .picks) in (c .before .loop2 .earlier) < length (tableWith (l .taken) (a .t4))
+inside c = let a = c .before .before .before .before .before .before .before .before .before .before .before .before .before .before .before .before .before .before .before .args in
+    let l = c .before .before .before .before .before .before .before .before .before .picks in
+    let h = in-table (c .before .before .before .before .before .before) in
+    let b = c .loop2-test .taken in
+    omega (arith, length-with (l .taken) (a .t4), l .inv .full)
+
+-- what the search has passed does not block; past the search nothing does, and the number of the pick is 0
+clear : (c : tie.At-loop2 Inv-loop μ-loop Inv-loop2 μ-loop2 Inv-picks μ-picks) → let a = (c .before .before .before .before .before .before .before .before .before .before .before .before .before .before .before .before .before .before .args) in let l = (c .before .before .before .before .before .before .before .before .picks) in let p = getD (a .picks .now) (l .next) 0 in let t = tableWith (l .taken) (a .t4) in
+    someOf (blocking (getD t p noRecord)) (take (c .loop2 .earlier) t) ≡ false
+clear c = let a = c .before .before .before .before .before .before .before .before .before .before .before .before .before .before .before .before .before .before .args in
+    let l = c .before .before .before .before .before .before .before .before .picks in
+    ap (λ (x : Record). someOf (blocking x) (take (c .loop2 .earlier) (tableWith (l .taken) (a .t4)))) (sym (here (c .before .before .before))) ∙ (c .loop2 .inv .3)
+
+free : (c : tie.After-loop2 Inv-loop μ-loop Inv-loop2 μ-loop2 Inv-picks μ-picks) → let a = (c .before .before .before .before .before .before .before .before .before .before .before .before .before .before .before .before .before .before .before .args) in let l = (c .before .before .before .before .before .before .before .before .before .picks) in placeNumber (tableWith (l .taken) (a .t4)) (a .commands) (getD (a .picks .now) (l .next) 0) ≡ 0
+unfolding waits
+free c = let a = c .before .before .before .before .before .before .before .before .before .before .before .before .before .before .before .before .before .before .before .args in
+    let l = c .before .before .before .before .before .before .before .before .before .picks in
+    let p = getD (a .picks .now) (l .next) 0 in
+    let t = tableWith (l .taken) (a .t4) in
+    let all : p ≡ (c .before .loop2 .earlier) = let h = (c .before .loop2 .inv .0) in let e = (c .loop2-test .left) in omega arith in
+    may-go t (a .commands) p (c .before .before .before .before .before .before .if2 .left) (ap finished (sym (here (c .before .before .before .before))) ∙ sym (c .before .before .before .finished .ensures) ∙ (c .before .before .if3 .left))
+    (ap (λ (k : ℕ). someOf (blocking (getD t p noRecord)) (take k t)) all ∙ clear (c .before))
+
+loop-holds : tie.Need-loop-holds Inv-loop μ-loop Inv-loop2 μ-loop2 Inv-picks μ-picks
+loop-holds c = let a = c .before .before .before .args in
+    opened-begin (a .d) (a .commands) (stateOf (a .memory .now) (a .image .now) (a .t4)) _ refl (search needs)
+
+mul-r : tie.Need-mul-r Inv-loop μ-loop Inv-loop2 μ-loop2 Inv-picks μ-picks
+mul-r c = omega arith
+
+array-copy-out-r : tie.Need-array-copy-out-r Inv-loop μ-loop Inv-loop2 μ-loop2 Inv-picks μ-picks
+array-copy-out-r c = omega arith
+
+mul-taken : tie.Need-mul-taken Inv-loop μ-loop Inv-loop2 μ-loop2 Inv-picks μ-picks
+mul-taken c = omega (arith, (c .before .before .loop .inv .long))
+
+array-write-taken : tie.Need-array-write-taken Inv-loop μ-loop Inv-loop2 μ-loop2 Inv-picks μ-picks
+array-write-taken c = omega (arith, (c .before .before .loop .inv .long))
+
+with-record-requires : tie.Need-with-record-requires Inv-loop μ-loop Inv-loop2 μ-loop2 Inv-picks μ-picks
+with-record-requires c κs = omega (arith, (c .before .before .before .loop .inv .small))
+
+add-k : tie.Need-add-k Inv-loop μ-loop Inv-loop2 μ-loop2 Inv-picks μ-picks
+add-k c = omega arith
+
+loop-less : tie.Need-loop-less Inv-loop μ-loop Inv-loop2 μ-loop2 Inv-picks μ-picks
+loop-less c = omega arith
+
+loop-again : tie.Need-loop-again Inv-loop μ-loop Inv-loop2 μ-loop2 Inv-picks μ-picks
+loop-again c = let a = c .before .before .before .before .before .before .before .before .args in
+    opened-more (a .d) (a .commands) (a .memory .now) (a .image .now) (a .t4) (c .before .before .before .before .loop .taken) (c .before .before .before .before .loop .seen) (c .before .before .before .before .loop .k) (c .before .before .before .before .loop .inv) (c .with-record .result) (c .before .before .before .loop-test .taken) (c .with-record .ensures .0) (c .with-record .ensures .1)
+
+first-number-requires : tie.Need-first-number-requires Inv-loop μ-loop Inv-loop2 μ-loop2 Inv-picks μ-picks
+first-number-requires c κs = search needs
+
+refused-requires : tie.Need-refused-requires Inv-loop μ-loop Inv-loop2 μ-loop2 Inv-picks μ-picks
+refused-requires c κs = search needs
+
+same-length : tie.Need-same-length Inv-loop μ-loop Inv-loop2 μ-loop2 Inv-picks μ-picks
+same-length c = search needs
+
+same-length-2 : tie.Need-same-length-2 Inv-loop μ-loop Inv-loop2 μ-loop2 Inv-picks μ-picks
+same-length-2 c = search needs
+
+returns : tie.Need-returns Inv-loop μ-loop Inv-loop2 μ-loop2 Inv-picks μ-picks
+returns c = let a = c .before .before .before .before .before .before .before .before .before .before .args in
+    let s = stateOf (a .memory .now) (a .image .now) (a .t4) in
+    let l = c .before .before .before .before .before .before .loop in
+    let number = number-is (a .d) (a .commands) (a .memory .now) (a .image .now) (a .t4) (l .taken) (l .seen) (l .k) (l .inv) (c .before .before .before .before .before .loop-test .left) (a .length) (c .before .before .first-number .result) (c .before .before .first-number .ensures) in
+    subst (λ (x : Ran). RunTakes (a .d) (a .commands) (byPicks (a .d) (a .commands) (a .picks .now)) (a .length) s (record { ran = x; taken = l .taken }) (s .store)) (sym (c .refused .ensures))
+    (refused-takes (a .d) (a .commands) (byPicks (a .d) (a .commands) (a .picks .now)) (a .length) s (c .before .before .first-number .result) (l .taken) number (c .before .if1 .taken)
+    (all-taken (a .d) (a .commands) (a .memory .now) (a .image .now) (a .t4) (l .taken) (l .seen) (l .k) (l .inv) (c .before .before .before .before .before .loop-test .left)))
+
+picks-holds : tie.Need-picks-holds Inv-loop μ-loop Inv-loop2 μ-loop2 Inv-picks μ-picks
+picks-holds c = let a = c .before .before .before .before .before .before .before .before .before .args in
+    let l = c .before .before .before .before .before .loop in
+    picks-begin (a .d) (a .commands) (a .picks .now) (a .memory .now) (a .image .now) (a .t4) (l .taken) (l .inv .full) (l .inv .long)
+    (all-taken (a .d) (a .commands) (a .memory .now) (a .image .now) (a .t4) (l .taken) (l .seen) (l .k) (l .inv) (c .before .before .before .before .loop-test .left)) (goes c)
+
+shared-slice-read-place : tie.Need-shared-slice-read-place Inv-loop μ-loop Inv-loop2 μ-loop2 Inv-picks μ-picks
+shared-slice-read-place c = omega arith
+
+cast-place : tie.Need-cast-place Inv-loop μ-loop Inv-loop2 μ-loop2 Inv-picks μ-picks
+cast-place c = omega (arith, (c .shared-slice-known2 .given) (c .before .before .picks .next))
+
+add-next : tie.Need-add-next Inv-loop μ-loop Inv-loop2 μ-loop2 Inv-picks μ-picks
+add-next c = omega arith
+
+add-passed : tie.Need-add-passed Inv-loop μ-loop Inv-loop2 μ-loop2 Inv-picks μ-picks
+add-passed c = omega (arith, (c .before .before .before .picks .inv .counted), (c .before .before .before .picks .inv .most))
+
+picks-less : tie.Need-picks-less Inv-loop μ-loop Inv-loop2 μ-loop2 Inv-picks μ-picks
+picks-less c = omega arith
+
+picks-again : tie.Need-picks-again Inv-loop μ-loop Inv-loop2 μ-loop2 Inv-picks μ-picks
+picks-again c = let a = c .before .before .before .before .before .before .before .before .before .before .before .before .before .args in
+    let l = c .before .before .before .picks in
+    let p = getD (a .picks .now) (l .next) 0 in
+    pick-passed-over (a .d) (a .commands) (a .picks .now) (a .memory .now) (a .image .now) (a .t4) (l .memory) (l .image) (l .taken) (l .searched) (l .steps) (l .passed) (l .next) (l .inv) (l .searched) (l .inv .search) (c .before .before .picks-test .taken) (λ q. omega (arith, no-place (tableWith (l .taken) (a .t4)) (a .commands) p (c .if2 .taken), q))
+
+mul-with-taken : tie.Need-mul-with-taken Inv-loop μ-loop Inv-loop2 μ-loop2 Inv-picks μ-picks
+mul-with-taken c = omega (arith, in-table c)
+
+array-copy-out-with-taken : tie.Need-array-copy-out-with-taken Inv-loop μ-loop Inv-loop2 μ-loop2 Inv-picks μ-picks
+array-copy-out-with-taken c = in-table c
+
+mul-with-taken-2 : tie.Need-mul-with-taken-2 Inv-loop μ-loop Inv-loop2 μ-loop2 Inv-picks μ-picks
+mul-with-taken-2 c = omega (arith, in-table (c .before))
+
+array-read-with-taken : tie.Need-array-read-with-taken Inv-loop μ-loop Inv-loop2 μ-loop2 Inv-picks μ-picks
+array-read-with-taken c = omega (arith, in-table (c .before), (c .before .before .before .before .picks .inv .long))
+
+with-taken-requires : tie.Need-with-taken-requires Inv-loop μ-loop Inv-loop2 μ-loop2 Inv-picks μ-picks
+with-taken-requires c κs = search needs
+
+finished-requires : tie.Need-finished-requires Inv-loop μ-loop Inv-loop2 μ-loop2 Inv-picks μ-picks
+finished-requires c κs = search needs
+
+add-passed-2 : tie.Need-add-passed-2 Inv-loop μ-loop Inv-loop2 μ-loop2 Inv-picks μ-picks
+add-passed-2 c = omega (arith, (c .before .before .before .before .before .before .before .picks .inv .counted), (c .before .before .before .before .before .before .before .picks .inv .most))
+
+picks-less-2 : tie.Need-picks-less-2 Inv-loop μ-loop Inv-loop2 μ-loop2 Inv-picks μ-picks
+picks-less-2 c = omega arith
+
+picks-again-2 : tie.Need-picks-again-2 Inv-loop μ-loop Inv-loop2 μ-loop2 Inv-picks μ-picks
+picks-again-2 c = let a = c .before .before .before .before .before .before .before .before .before .before .before .before .before .before .before .before .before .args in
+    let l = c .before .before .before .before .before .before .before .picks in
+    let p = getD (a .picks .now) (l .next) 0 in
+    let t = tableWith (l .taken) (a .t4) in
+    let over = ap finished (sym (here (c .before .before))) ∙ sym (c .before .finished .ensures) ∙ (c .if3 .taken) in
+    pick-passed-over (a .d) (a .commands) (a .picks .now) (a .memory .now) (a .image .now) (a .t4) (l .memory) (l .image) (l .taken) (l .searched) (l .steps) (l .passed) (l .next) (l .inv) (l .searched) (l .inv .search) (c .before .before .before .before .before .before .picks-test .taken) (λ q. omega (arith, is-finished t (a .commands) p (c .before .before .before .before .if2 .left) over, q))
+
+mul-earlier : tie.Need-mul-earlier Inv-loop μ-loop Inv-loop2 μ-loop2 Inv-picks μ-picks
+mul-earlier c = omega (arith, in-table (c .before .before .before .before))
+
+array-read-earlier : tie.Need-array-read-earlier Inv-loop μ-loop Inv-loop2 μ-loop2 Inv-picks μ-picks
+array-read-earlier c = omega (arith, in-table (c .before .before .before .before), (c .before .before .before .before .before .before .before .picks .inv .search .long))
+
+loop2-holds : tie.Need-loop2-holds Inv-loop μ-loop Inv-loop2 μ-loop2 Inv-picks μ-picks
+loop2-holds c = let a = c .before .before .before .before .before .before .before .before .before .before .before .before .before .before .before .before .before .args in
+    let l = c .before .before .before .before .before .before .before .picks in
+    let p = getD (a .picks .now) (l .next) 0 in
+    let t = tableWith (l .taken) (a .t4) in
+    (l .inv .search .within p, refl, refl, ap (λ (x : Record). someOf (blocking x) (take (getD (l .searched) p 0) t)) (here (c .before .before)) ∙ l .inv .search .free p)
+
+mul-with-taken-3 : tie.Need-mul-with-taken-3 Inv-loop μ-loop Inv-loop2 μ-loop2 Inv-picks μ-picks
+mul-with-taken-3 c = omega (arith, in-table (c .before .before .before .before .before .before))
+
+array-copy-out-with-taken-2 : tie.Need-array-copy-out-with-taken-2 Inv-loop μ-loop Inv-loop2 μ-loop2 Inv-picks μ-picks
+array-copy-out-with-taken-2 c = omega (arith, in-table (c .before .before .before .before .before .before))
+
+mul-with-taken-4 : tie.Need-mul-with-taken-4 Inv-loop μ-loop Inv-loop2 μ-loop2 Inv-picks μ-picks
+mul-with-taken-4 c = omega (arith, in-table (c .before .before .before .before .before .before .before))
+
+array-read-with-taken-2 : tie.Need-array-read-with-taken-2 Inv-loop μ-loop Inv-loop2 μ-loop2 Inv-picks μ-picks
+array-read-with-taken-2 c = omega (arith, in-table (c .before .before .before .before .before .before .before), (c .before .before .before .before .before .before .before .before .before .before .picks .inv .long))
+
+with-taken-requires-2 : tie.Need-with-taken-requires-2 Inv-loop μ-loop Inv-loop2 μ-loop2 Inv-picks μ-picks
+with-taken-requires-2 c κs = search needs
+
+blocks-requires : tie.Need-blocks-requires Inv-loop μ-loop Inv-loop2 μ-loop2 Inv-picks μ-picks
+blocks-requires c κs = search needs
+
+mul-searched : tie.Need-mul-searched Inv-loop μ-loop Inv-loop2 μ-loop2 Inv-picks μ-picks
+mul-searched c = omega (arith, in-table (c .before .before .before .before .before .before .before .before .before .before))
+
+array-write-searched : tie.Need-array-write-searched Inv-loop μ-loop Inv-loop2 μ-loop2 Inv-picks μ-picks
+array-write-searched c = let e = ap length (c .before .before .before .before .before .loop2 .inv .1) in omega (arith, in-table (c .before .before .before .before .before .before .before .before .before .before), (c .before .before .before .before .before .before .before .before .before .before .before .before .before .picks .inv .search .long))
+
+add-passed-3 : tie.Need-add-passed-3 Inv-loop μ-loop Inv-loop2 μ-loop2 Inv-picks μ-picks
+add-passed-3 c = omega (arith, (c .before .before .before .before .before .loop2 .inv .2), (c .before .before .before .before .before .before .before .before .before .before .before .before .before .picks .inv .counted), (c .before .before .before .before .before .before .before .before .before .before .before .before .before .picks .inv .most), (c .before .before .before .before .before .before .before .before .before .before .before .before .before .before .before .before .before .before .before .before .before .before .before .good))
+
+picks-less-3 : tie.Need-picks-less-3 Inv-loop μ-loop Inv-loop2 μ-loop2 Inv-picks μ-picks
+picks-less-3 c = omega (arith, (c .before .before .before .before .before .before .before .before .before .before .before .before .picks-test .taken))
+
+picks-again-3 : tie.Need-picks-again-3 Inv-loop μ-loop Inv-loop2 μ-loop2 Inv-picks μ-picks
+unfolding waits
+picks-again-3 c = let a = c .before .before .before .before .before .before .before .before .before .before .before .before .before .before .before .before .before .before .before .before .before .before .before .args in
+    let l = c .before .before .before .before .before .before .before .before .before .before .before .before .before .picks in
+    let p = getD (a .picks .now) (l .next) 0 in
+    let t = tableWith (l .taken) (a .t4) in
+    let e = c .before .before .before .before .before .loop2 in
+    let blocked = sym (λ j. blocking (here (c .before .before .before .before .before .before .before .before) j) (there (c .before .before) j)) ∙ sym (c .before .blocks2 .ensures) ∙ (c .if4 .taken) in
+    let open-yet = ap finished (sym (here (c .before .before .before .before .before .before .before .before))) ∙ sym (c .before .before .before .before .before .before .before .finished .ensures) ∙ (c .before .before .before .before .before .before .if3 .left) in
+    let six = has-to-wait t (a .commands) p (c .before .before .before .before .before .before .before .before .before .before .if2 .left) open-yet (some-here noRecord (blocking (getD t p noRecord)) t (e .earlier) p (c .before .before .before .before .loop2-test .taken) (inside (c .before .before .before .before)) blocked) in
+    let to = searched-to t (l .searched) p (e .earlier) (l .inv .search) (in-table (c .before .before .before .before .before .before .before .before .before .before)) (e .inv .0) (clear (c .before .before .before .before .before)) in
+    subst (λ (x : List ℕ). PicksLeft (a .d) (a .commands) (a .picks .now) (a .memory .now) (a .image .now) (a .t4) (l .memory) (l .image) (l .taken) (set x p (e .earlier)) (l .steps) (e .passed + 1) (l .next + 1)) (sym (e .inv .1))
+    (subst (λ (x : ℕ). PicksLeft (a .d) (a .commands) (a .picks .now) (a .memory .now) (a .image .now) (a .t4) (l .memory) (l .image) (l .taken) (set (l .searched) p (e .earlier)) (l .steps) (x + 1) (l .next + 1)) (sym (e .inv .2))
+    (pick-passed-over (a .d) (a .commands) (a .picks .now) (a .memory .now) (a .image .now) (a .t4) (l .memory) (l .image) (l .taken) (l .searched) (l .steps) (l .passed) (l .next) (l .inv) (set (l .searched) p (e .earlier)) to (c .before .before .before .before .before .before .before .before .before .before .before .before .picks-test .taken) (λ q. omega (arith, six, q))))
+
+add-earlier : tie.Need-add-earlier Inv-loop μ-loop Inv-loop2 μ-loop2 Inv-picks μ-picks
+add-earlier c = omega (arith, in-table (c .before .before .before .before .before .before .before .before .before .before))
+
+loop2-less : tie.Need-loop2-less Inv-loop μ-loop Inv-loop2 μ-loop2 Inv-picks μ-picks
+loop2-less c = omega arith
+
+loop2-again : tie.Need-loop2-again Inv-loop μ-loop Inv-loop2 μ-loop2 Inv-picks μ-picks
+loop2-again c = let a = c .before .before .before .before .before .before .before .before .before .before .before .before .before .before .before .before .before .before .before .before .before .before .before .args in
+    let l = c .before .before .before .before .before .before .before .before .before .before .before .before .before .picks in
+    let e = c .before .before .before .before .before .loop2 in
+    let t = tableWith (l .taken) (a .t4) in
+    (omega arith, e .inv .1, e .inv .2, none-more noRecord (blocking (c .before .before .before .before .before .before .before .before .with-taken .result)) t (e .earlier) (inside (c .before .before .before .before)) (e .inv .3) (ap (blocking (c .before .before .before .before .before .before .before .before .with-taken .result)) (sym (there (c .before .before))) ∙ sym (c .before .blocks2 .ensures) ∙ (c .if4 .left)))
+
+mul-searched-2 : tie.Need-mul-searched-2 Inv-loop μ-loop Inv-loop2 μ-loop2 Inv-picks μ-picks
+mul-searched-2 c = omega (arith, in-table (c .before .before .before .before .before .before))
+
+array-write-searched-2 : tie.Need-array-write-searched-2 Inv-loop μ-loop Inv-loop2 μ-loop2 Inv-picks μ-picks
+array-write-searched-2 c = let e = ap length (c .before .loop2 .inv .1) in omega (arith, in-table (c .before .before .before .before .before .before), (c .before .before .before .before .before .before .before .before .before .picks .inv .search .long))
+
+take-steps-requires : tie.Need-take-steps-requires Inv-loop μ-loop Inv-loop2 μ-loop2 Inv-picks μ-picks
+take-steps-requires c κs = let a = c .before .before .before .before .before .before .before .before .before .before .before .before .before .before .before .before .before .before .before .before .before .args in
+    let l = c .before .before .before .before .before .before .before .before .before .before .before .picks in
+    pick-ready (a .d) (a .commands) (a .picks .now) (a .memory .now) (a .image .now) (a .t4) (l .memory) (l .image) (l .taken) (l .searched) (l .steps) (l .passed) (l .next) (l .inv) (c .before .before .before .before .before .before .with-taken .result) (here (c .before .before .before .before .before .before)) (in-table (c .before .before .before .before .before .before .before .before)) (free (c .before .before))
+
+add-taken : tie.Need-add-taken Inv-loop μ-loop Inv-loop2 μ-loop2 Inv-picks μ-picks
+unfolding remaining
+add-taken c = let a = c .before .before .before .before .before .before .before .before .before .before .before .before .before .before .before .before .before .before .before .before .before .before .before .before .before .before .before .args in
+    let l = c .before .before .before .before .before .before .before .before .before .before .before .before .before .before .before .before .before .picks in
+    let some = pick-ready (a .d) (a .commands) (a .picks .now) (a .memory .now) (a .image .now) (a .t4) (l .memory) (l .image) (l .taken) (l .searched) (l .steps) (l .passed) (l .next) (l .inv) (c .before .before .before .before .before .before .before .before .before .before .before .before .with-taken .result) (here (c .before .before .before .before .before .before .before .before .before .before .before .before)) (in-table (c .before .before .before .before .before .before .before .before .before .before .before .before .before .before)) (free (c .before .before .before .before .before .before .before .before)) .0 in
+    omega (arith, some, steps-small (c .before .before .before .before .before .before .before .before .before .before .before .before .with-taken .result) (omega arith))
+
+mul-taken-2 : tie.Need-mul-taken-2 Inv-loop μ-loop Inv-loop2 μ-loop2 Inv-picks μ-picks
+mul-taken-2 c = omega (arith, in-table (c .before .before .before .before .before .before .before .before .before .before .before .before .before .before))
+
+array-write-taken-2 : tie.Need-array-write-taken-2 Inv-loop μ-loop Inv-loop2 μ-loop2 Inv-picks μ-picks
+array-write-taken-2 c = omega (arith, in-table (c .before .before .before .before .before .before .before .before .before .before .before .before .before .before), (c .before .before .before .before .before .before .before .before .before .before .before .before .before .before .before .before .before .picks .inv .long))
+
+add-steps : tie.Need-add-steps Inv-loop μ-loop Inv-loop2 μ-loop2 Inv-picks μ-picks
+add-steps c = omega (arith, (c .before .before .before .before .before .before .before .before .before .before .before .before .before .before .before .before .before .picks .inv .counted), (c .before .before .before .before .before .before .before .before .before .before .before .before .before .before .before .before .before .picks .inv .most), (c .before .before .before .before .before .before .before .before .before .before .before .before .before .before .before .before .before .before .before .before .before .before .before .before .before .before .before .good))
+
+picks-less-4 : tie.Need-picks-less-4 Inv-loop μ-loop Inv-loop2 μ-loop2 Inv-picks μ-picks
+picks-less-4 c = omega (arith, (c .before .before .before .before .before .before .before .before .before .before .before .before .before .before .before .before .picks-test .taken))
+
+picks-again-4 : tie.Need-picks-again-4 Inv-loop μ-loop Inv-loop2 μ-loop2 Inv-picks μ-picks
+picks-again-4 c = let a = c .before .before .before .before .before .before .before .before .before .before .before .before .before .before .before .before .before .before .before .before .before .before .before .before .before .before .before .args in
+    let l = c .before .before .before .before .before .before .before .before .before .before .before .before .before .before .before .before .before .picks in
+    let p = getD (a .picks .now) (l .next) 0 in
+    let t = tableWith (l .taken) (a .t4) in
+    let e = c .before .before .before .before .before .before .before .before .before .loop2 in
+    let v = c .before .before .before .before .before .take-steps in
+    let r = c .before .before .before .before .before .before .before .before .before .before .before .before .with-taken .result in
+    let to = searched-to t (l .searched) p (e .earlier) (l .inv .search) (in-table (c .before .before .before .before .before .before .before .before .before .before .before .before .before .before)) (e .inv .0) (clear (c .before .before .before .before .before .before .before .before .before)) in
+    subst (λ (x : List ℕ). PicksLeft (a .d) (a .commands) (a .picks .now) (a .memory .now) (a .image .now) (a .t4) (v .last .0) (v .last .1 .0) (set (l .taken) p (r .taken + 1)) (set x p (e .earlier)) (l .steps + 1) (e .passed) (l .next + 1)) (sym (e .inv .1))
+    (subst (λ (x : ℕ). PicksLeft (a .d) (a .commands) (a .picks .now) (a .memory .now) (a .image .now) (a .t4) (v .last .0) (v .last .1 .0) (set (l .taken) p (r .taken + 1)) (set (l .searched) p (e .earlier)) (l .steps + 1) x (l .next + 1)) (sym (e .inv .2))
+    (pick-taken (a .d) (a .commands) (a .picks .now) (a .memory .now) (a .image .now) (a .t4) (l .memory) (l .image) (l .taken) (l .searched) (l .steps) (l .passed) (l .next) (l .inv) r (here (c .before .before .before .before .before .before .before .before .before .before .before .before)) (in-table (c .before .before .before .before .before .before .before .before .before .before .before .before .before .before)) (v .last .0) (v .last .1 .0) (set (l .searched) p (e .earlier)) to (c .before .before .before .before .before .before .before .before .before .before .before .before .before .before .before .before .picks-test .taken) (free (c .before .before .before .before .before .before .before .before)) (v .ensures ∙ one-step (a .d) r (lent (l .memory) (l .image)))))
+
+same-length-3 : tie.Need-same-length-3 Inv-loop μ-loop Inv-loop2 μ-loop2 Inv-picks μ-picks
+same-length-3 c = (c .before .before .picks .inv .memory-length)
+
+same-length-4 : tie.Need-same-length-4 Inv-loop μ-loop Inv-loop2 μ-loop2 Inv-picks μ-picks
+same-length-4 c = (c .before .before .picks .inv .image-length)
+
+returns-2 : tie.Need-returns-2 Inv-loop μ-loop Inv-loop2 μ-loop2 Inv-picks μ-picks
+returns-2 c = let a = c .before .before .before .before .before .before .before .before .before .before .before .before .args in
+    let l = c .before .before .picks in
+    let s = stateOf (a .memory .now) (a .image .now) (a .t4) in
+    let f = c .before .before .before .before .before .before .before .before .loop in
+    let left = all-left (a .d) (a .commands) (a .memory .now) (a .image .now) (a .t4) (f .taken) (f .seen) (f .k) (f .inv) (c .before .before .before .before .before .before .before .loop-test .left) in
+    accepted-takes (a .d) (a .commands) (byPicks (a .d) (a .commands) (a .picks .now)) (a .length) s (l .steps) (l .passed) _ (l .taken) _ (whole (c .before .before .before)) (goes (c .before .before .before)) (l .inv .long ∙ sym (l .inv .full))
+    (all-picked (a .d) (a .commands) (a .picks .now) (a .memory .now) (a .image .now) (a .t4) (l .memory) (l .image) (l .taken) (l .searched) (l .steps) (l .passed) (l .next) (l .inv) (c .before .picks-test .left)) (ap (eqb (l .steps)) left ∙ finished-by-count (a .d) (a .commands) (a .picks .now) (a .memory .now) (a .image .now) (a .t4) (l .memory) (l .image) (l .taken) (l .searched) (l .steps) (l .passed) (l .next) (l .inv))
+
+pub picks-taken-spec : {M : Type 1} → statement M
+picks-taken-spec =
+    tie.close
+    (tie.spec
+    Inv-loop
+    μ-loop
+    Inv-loop2
+    μ-loop2
+    Inv-picks
+    μ-picks
+    loop-holds
+    mul-r
+    array-copy-out-r
+    mul-taken
+    array-write-taken
+    with-record-requires
+    add-k
+    loop-less
+    loop-again
+    first-number-requires
+    refused-requires
+    same-length
+    same-length-2
+    returns
+    picks-holds
+    shared-slice-read-place
+    cast-place
+    add-next
+    add-passed
+    picks-less
+    picks-again
+    mul-with-taken
+    array-copy-out-with-taken
+    mul-with-taken-2
+    array-read-with-taken
+    with-taken-requires
+    finished-requires
+    add-passed-2
+    picks-less-2
+    picks-again-2
+    mul-earlier
+    array-read-earlier
+    loop2-holds
+    mul-with-taken-3
+    array-copy-out-with-taken-2
+    mul-with-taken-4
+    array-read-with-taken-2
+    with-taken-requires-2
+    blocks-requires
+    mul-searched
+    array-write-searched
+    add-passed-3
+    picks-less-3
+    picks-again-3
+    add-earlier
+    loop2-less
+    loop2-again
+    mul-searched-2
+    array-write-searched-2
+    take-steps-requires
+    add-taken
+    mul-taken-2
+    array-write-taken-2
+    add-steps
+    picks-less-4
+    picks-again-4
+    same-length-3
+    same-length-4
+    returns-2)

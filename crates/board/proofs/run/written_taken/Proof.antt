@@ -1,0 +1,222 @@
+-- `board::run::written_taken` meets its contract: its first loop keeps `Opened` and its second `WrittenLeft`.
+use mathlib.Core.Path.{_≡_, refl, sym, ap, _∙_, subst}
+use Prim.Native.Nat.{ℕ, _+_, _≤_, _<_, _-_, min}
+use native.Mathlib.Omega.{arith}
+use mathlib.Core.Bool.{Bool, false}
+use mathlib.Core.List.{List}
+use lib.ListN.{getD, take, set}
+use borrow.Author.Needs.{needs}
+use Rattle.meaning.specs.declared.Record.{Record}
+use Rattle.meaning.specs.Store.{lent}
+use Rattle.meaning.specs.State.{stateOf, mostCommands}
+use Rattle.meaning.specs.Command.{remaining, noRecord}
+use Rattle.meaning.specs.Run.{runNumber, asWritten}
+use Rattle.board.specs.Changes.{tableWith, takenOf, handed}
+use Rattle.board.proofs.Opening.{Opened, opened-begin, opened-more, all-taken, all-left, number-is, whole-handed, run-goes}
+use Rattle.board.proofs.Runs.{refused-takes, accepted-takes}
+use Rattle.meaning.specs.declared.Ran.{Ran}
+use lib.Dec.{leb}
+use Rattle.board.specs.Changes.{RunTakes}
+use Rattle.board.proofs.Moving.{steps-small}
+use Rattle.board.proofs.Written.{WrittenLeft, written-begin, in-use-few, turn-ready, next-turn, all-written, finished-by-budget}
+use Rattle.board.proofs.run.written_taken.Statement.{statement}
+use Rattle.board.proofs.run.written_taken.Tie as tie
+
+abbrev Inv-loop : tie.InvT-loop
+Inv-loop memory image d many commands budget table taken₀ seen₀ k₀ taken seen k =
+    Opened d commands (stateOf memory image table) taken seen k
+
+abbrev μ-loop : tie.MeasureT-loop
+μ-loop memory image d many commands budget table taken₀ seen₀ k₀ taken seen k =
+    32 - k
+
+abbrev Inv-loop2 : tie.InvT-loop2
+Inv-loop2 memory₀ image₀ d many commands budget table taken₀ seen k number left₀ at₀ memory image taken left at =
+    WrittenLeft d commands budget memory₀ image₀ table memory image taken left at
+
+abbrev μ-loop2 : tie.MeasureT-loop2
+μ-loop2 memory₀ image₀ d many commands budget table taken₀ seen k number left₀ at₀ memory image taken left at =
+    commands - at
+
+-- past the first loop a run that is not refused has been handed all of its table, and goes
+whole : (c : tie.Else1 Inv-loop μ-loop Inv-loop2 μ-loop2) → let a = (c .before .before .before .before .before .before .before .before .args) in let s = stateOf (a .memory .now) (a .image .now) (a .t4) in handed (a .length) s ≡ s
+whole c = let a = c .before .before .before .before .before .before .before .before .args in
+    let l = c .before .before .before .before .before .loop in
+    whole-handed (a .d) (a .commands) (a .memory .now) (a .image .now) (a .t4) (l .taken) (l .seen) (l .k) (l .inv) (c .before .before .before .before .loop-test .left) (a .length) (c .before .first-number .result) (c .before .first-number .ensures) (c .if1 .left)
+
+goes : (c : tie.Else1 Inv-loop μ-loop Inv-loop2 μ-loop2) → let a = (c .before .before .before .before .before .before .before .before .args) in runNumber (a .d) (a .commands) (stateOf (a .memory .now) (a .image .now) (a .t4)) ≡ 0
+goes c = let a = c .before .before .before .before .before .before .before .before .args in
+    let l = c .before .before .before .before .before .loop in
+    run-goes (a .d) (a .commands) (a .memory .now) (a .image .now) (a .t4) (l .taken) (l .seen) (l .k) (l .inv) (c .before .before .before .before .loop-test .left) (a .length) (c .before .first-number .result) (c .before .first-number .ensures) (c .if1 .left)
+
+few : (c : tie.At-loop2 Inv-loop μ-loop Inv-loop2 μ-loop2) → (c .before .before .before .before .before .before .before .before .before .args .commands) ≤ mostCommands
+few c = let a = c .before .before .before .before .before .before .before .before .before .args in
+    let l = c .loop2 in
+    in-use-few (a .d) (a .commands) (a .budget) (a .memory .now) (a .image .now) (a .t4) (l .memory) (l .image) (l .taken) (l .left) (l .at) (l .inv)
+
+-- how many steps the command takes
+count : (c : tie.After-fewer Inv-loop μ-loop Inv-loop2 μ-loop2) → let a = (c .before .before .before .before .before .before .before .before .before .before .before .before .before .args) in let l = (c .before .before .before .before .loop2) in (c .fewer .result) ≡ min (l .left) (remaining (getD (a .t4) (l .at) noRecord))
+count c = (c .fewer .ensures) ∙ ap (min (c .before .before .before .before .loop2 .left)) (c .before .remaining .ensures)
+
+loop-holds : tie.Need-loop-holds Inv-loop μ-loop Inv-loop2 μ-loop2
+loop-holds c = let a = c .before .before .args in
+    opened-begin (a .d) (a .commands) (stateOf (a .memory .now) (a .image .now) (a .t4)) _ refl (search needs)
+
+mul-r : tie.Need-mul-r Inv-loop μ-loop Inv-loop2 μ-loop2
+mul-r c = omega arith
+
+array-copy-out-r : tie.Need-array-copy-out-r Inv-loop μ-loop Inv-loop2 μ-loop2
+array-copy-out-r c = omega arith
+
+mul-taken : tie.Need-mul-taken Inv-loop μ-loop Inv-loop2 μ-loop2
+mul-taken c = omega (arith, (c .before .before .loop .inv .long))
+
+array-write-taken : tie.Need-array-write-taken Inv-loop μ-loop Inv-loop2 μ-loop2
+array-write-taken c = omega (arith, (c .before .before .loop .inv .long))
+
+with-record-requires : tie.Need-with-record-requires Inv-loop μ-loop Inv-loop2 μ-loop2
+with-record-requires c κs = omega (arith, (c .before .before .before .loop .inv .small))
+
+add-k : tie.Need-add-k Inv-loop μ-loop Inv-loop2 μ-loop2
+add-k c = omega arith
+
+loop-less : tie.Need-loop-less Inv-loop μ-loop Inv-loop2 μ-loop2
+loop-less c = omega arith
+
+loop-again : tie.Need-loop-again Inv-loop μ-loop Inv-loop2 μ-loop2
+loop-again c = let a = c .before .before .before .before .before .before .before .args in
+    opened-more (a .d) (a .commands) (a .memory .now) (a .image .now) (a .t4) (c .before .before .before .before .loop .taken) (c .before .before .before .before .loop .seen) (c .before .before .before .before .loop .k) (c .before .before .before .before .loop .inv) (c .with-record .result) (c .before .before .before .loop-test .taken) (c .with-record .ensures .0) (c .with-record .ensures .1)
+
+first-number-requires : tie.Need-first-number-requires Inv-loop μ-loop Inv-loop2 μ-loop2
+first-number-requires c κs = search needs
+
+refused-requires : tie.Need-refused-requires Inv-loop μ-loop Inv-loop2 μ-loop2
+refused-requires c κs = search needs
+
+same-length : tie.Need-same-length Inv-loop μ-loop Inv-loop2 μ-loop2
+same-length c = search needs
+
+same-length-2 : tie.Need-same-length-2 Inv-loop μ-loop Inv-loop2 μ-loop2
+same-length-2 c = search needs
+
+returns : tie.Need-returns Inv-loop μ-loop Inv-loop2 μ-loop2
+returns c = let a = c .before .before .before .before .before .before .before .before .before .args in
+    let s = stateOf (a .memory .now) (a .image .now) (a .t4) in
+    let l = c .before .before .before .before .before .before .loop in
+    let number = number-is (a .d) (a .commands) (a .memory .now) (a .image .now) (a .t4) (l .taken) (l .seen) (l .k) (l .inv) (c .before .before .before .before .before .loop-test .left) (a .length) (c .before .before .first-number .result) (c .before .before .first-number .ensures) in
+    subst (λ (x : Ran). RunTakes (a .d) (a .commands) (asWritten (a .d) (a .commands) (a .budget)) (a .length) s (record { ran = x; taken = l .taken }) (s .store)) (sym (c .refused .ensures))
+    (refused-takes (a .d) (a .commands) (asWritten (a .d) (a .commands) (a .budget)) (a .length) s (c .before .before .first-number .result) (l .taken) number (c .before .if1 .taken)
+    (all-taken (a .d) (a .commands) (a .memory .now) (a .image .now) (a .t4) (l .taken) (l .seen) (l .k) (l .inv) (c .before .before .before .before .before .loop-test .left)))
+
+loop2-holds : tie.Need-loop2-holds Inv-loop μ-loop Inv-loop2 μ-loop2
+loop2-holds c = let a = c .before .before .before .before .before .before .before .before .args in
+    let l = c .before .before .before .before .before .loop in
+    written-begin (a .d) (a .commands) (a .budget) (a .memory .now) (a .image .now) (a .t4) (l .taken) (l .inv .full) (l .inv .long)
+    (all-taken (a .d) (a .commands) (a .memory .now) (a .image .now) (a .t4) (l .taken) (l .seen) (l .k) (l .inv) (c .before .before .before .before .loop-test .left)) (goes c)
+
+mul-r-2 : tie.Need-mul-r-2 Inv-loop μ-loop Inv-loop2 μ-loop2
+mul-r-2 c = omega (arith, few (c .before))
+
+array-copy-out-r-2 : tie.Need-array-copy-out-r-2 Inv-loop μ-loop Inv-loop2 μ-loop2
+array-copy-out-r-2 c = omega (arith, few (c .before))
+
+remaining-requires : tie.Need-remaining-requires Inv-loop μ-loop Inv-loop2 μ-loop2
+remaining-requires c κs = search needs
+
+fewer-requires : tie.Need-fewer-requires Inv-loop μ-loop Inv-loop2 μ-loop2
+fewer-requires c κs = search needs
+
+take-steps-requires : tie.Need-take-steps-requires Inv-loop μ-loop Inv-loop2 μ-loop2
+take-steps-requires c κs = let a = c .before .before .before .before .before .before .before .before .before .before .before .before .before .before .before .args in
+    let l = c .before .before .before .before .before .before .loop2 in
+    turn-ready (a .d) (a .commands) (a .budget) (a .memory .now) (a .image .now) (a .t4) (l .memory) (l .image) (l .taken) (l .left) (l .at) (l .inv) (c .before .before .before .before .before .loop2-test .taken) (c .before .before .fewer .result) (count (c .before .before))
+
+add-taken : tie.Need-add-taken Inv-loop μ-loop Inv-loop2 μ-loop2
+unfolding remaining
+add-taken c = let a = c .before .before .before .before .before .before .before .before .before .before .before .before .before .before .before .before .before .before .before .before .before .args in
+    let l = c .before .before .before .before .before .before .before .before .before .before .before .before .loop2 in
+    let h = turn-ready (a .d) (a .commands) (a .budget) (a .memory .now) (a .image .now) (a .t4) (l .memory) (l .image) (l .taken) (l .left) (l .at) (l .inv) (c .before .before .before .before .before .before .before .before .before .before .before .loop2-test .taken) (c .before .before .before .before .before .before .before .before .fewer .result) (count (c .before .before .before .before .before .before .before .before)) .0 in
+    omega (arith, h, steps-small (getD (a .t4) (l .at) noRecord) (omega arith))
+
+mul-taken-2 : tie.Need-mul-taken-2 Inv-loop μ-loop Inv-loop2 μ-loop2
+mul-taken-2 c = omega (arith, few (c .before .before .before .before .before .before .before .before .before .before .before .before))
+
+array-write-taken-2 : tie.Need-array-write-taken-2 Inv-loop μ-loop Inv-loop2 μ-loop2
+array-write-taken-2 c = omega (arith, few (c .before .before .before .before .before .before .before .before .before .before .before .before), (c .before .before .before .before .before .before .before .before .before .before .before .before .loop2 .inv .long))
+
+cast-left : tie.Need-cast-left Inv-loop μ-loop Inv-loop2 μ-loop2
+cast-left c = search needs
+
+sub-left : tie.Need-sub-left Inv-loop μ-loop Inv-loop2 μ-loop2
+sub-left c = omega (arith, (c .before .before .before .before .before .before .before .before .fewer .ensures))
+
+add-at : tie.Need-add-at Inv-loop μ-loop Inv-loop2 μ-loop2
+add-at c = omega arith
+
+loop2-less : tie.Need-loop2-less Inv-loop μ-loop Inv-loop2 μ-loop2
+loop2-less c = omega (arith, (c .before .before .before .before .before .before .before .before .before .before .before .loop2-test .taken))
+
+loop2-again : tie.Need-loop2-again Inv-loop μ-loop Inv-loop2 μ-loop2
+loop2-again c = let a = c .before .before .before .before .before .before .before .before .before .before .before .before .before .before .before .before .before .before .before .before .before .args in
+    let l = c .before .before .before .before .before .before .before .before .before .before .before .before .loop2 in
+    let v = c .before .before .before .before .before .take-steps in
+    next-turn (a .d) (a .commands) (a .budget) (a .memory .now) (a .image .now) (a .t4) (l .memory) (l .image) (l .taken) (l .left) (l .at) (l .inv) (c .before .before .before .before .before .before .before .before .before .before .before .loop2-test .taken) (c .before .before .before .before .before .before .before .before .fewer .result) (count (c .before .before .before .before .before .before .before .before)) (v .last .0) (v .last .1 .0) (v .ensures) (v .kept .0) (v .kept .1 .0)
+
+sub-t49 : tie.Need-sub-t49 Inv-loop μ-loop Inv-loop2 μ-loop2
+sub-t49 c = omega (arith, (c .before .loop2 .inv .within))
+
+same-length-3 : tie.Need-same-length-3 Inv-loop μ-loop Inv-loop2 μ-loop2
+same-length-3 c = (c .before .before .loop2 .inv .memory-length)
+
+same-length-4 : tie.Need-same-length-4 Inv-loop μ-loop Inv-loop2 μ-loop2
+same-length-4 c = (c .before .before .loop2 .inv .image-length)
+
+returns-2 : tie.Need-returns-2 Inv-loop μ-loop Inv-loop2 μ-loop2
+returns-2 c = let a = c .before .before .before .before .before .before .before .before .before .before .before .args in
+    let l = c .before .before .loop2 in
+    let s = stateOf (a .memory .now) (a .image .now) (a .t4) in
+    let f = c .before .before .before .before .before .before .before .before .loop in
+    let left = all-left (a .d) (a .commands) (a .memory .now) (a .image .now) (a .t4) (f .taken) (f .seen) (f .k) (f .inv) (c .before .before .before .before .before .before .before .loop-test .left) in
+    accepted-takes (a .d) (a .commands) (asWritten (a .d) (a .commands) (a .budget)) (a .length) s (a .budget - l .left) 0 _ (l .taken) _ (whole (c .before .before .before)) (goes (c .before .before .before)) (l .inv .long ∙ sym (l .inv .full))
+    (all-written (a .d) (a .commands) (a .budget) (a .memory .now) (a .image .now) (a .t4) (l .memory) (l .image) (l .taken) (l .left) (l .at) (l .inv) (c .before .loop2-test .left)) (ap (λ (x : ℕ). leb x (a .budget)) left ∙ finished-by-budget (a .d) (a .commands) (a .budget) (a .memory .now) (a .image .now) (a .t4) (l .memory) (l .image) (l .taken) (l .left) (l .at) (l .inv) (c .before .loop2-test .left))
+
+pub written-taken-spec : {M : Type 1} → statement M
+written-taken-spec =
+    tie.close
+    (tie.spec
+    Inv-loop
+    μ-loop
+    Inv-loop2
+    μ-loop2
+    loop-holds
+    mul-r
+    array-copy-out-r
+    mul-taken
+    array-write-taken
+    with-record-requires
+    add-k
+    loop-less
+    loop-again
+    first-number-requires
+    refused-requires
+    same-length
+    same-length-2
+    returns
+    loop2-holds
+    mul-r-2
+    array-copy-out-r-2
+    remaining-requires
+    fewer-requires
+    take-steps-requires
+    add-taken
+    mul-taken-2
+    array-write-taken-2
+    cast-left
+    sub-left
+    add-at
+    loop2-less
+    loop2-again
+    sub-t49
+    same-length-3
+    same-length-4
+    returns-2)

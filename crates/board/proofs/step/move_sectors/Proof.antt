@@ -1,0 +1,111 @@
+-- `board::step::move_sectors` meets its contract: the kind of the command decides which part is copied where.
+use mathlib.Core.Path.{sym, ap, _∙_}
+use Prim.Native.Nat.{ℕ}
+use mathlib.Core.List.{List}
+use Rattle.meaning.specs.Store.{lent}
+use Rattle.meaning.proofs.Rows.{or-first, or-second}
+use Rattle.board.proofs.Moving.{read-moved, write-moved, none-moved, room-on-disk, room-in-memory}
+use borrow.Author.Needs.{needs}
+use Rattle.board.proofs.step.move_sectors.Statement.{statement}
+use Rattle.board.proofs.step.move_sectors.Tie as tie
+
+cast-on-disk : tie.Need-cast-on-disk
+cast-on-disk c = search needs
+
+cast-on-disk-2 : tie.Need-cast-on-disk-2
+cast-on-disk-2 c = search needs
+
+add-on-disk : tie.Need-add-on-disk
+add-on-disk c = search needs
+
+mul-on-disk : tie.Need-mul-on-disk
+mul-on-disk c = search needs
+
+cast-in-memory : tie.Need-cast-in-memory
+cast-in-memory c = search needs
+
+cast-in-memory-2 : tie.Need-cast-in-memory-2
+cast-in-memory-2 c = search needs
+
+mul-in-memory : tie.Need-mul-in-memory
+mul-in-memory c = search needs
+
+add-in-memory : tie.Need-add-in-memory
+add-in-memory c = search needs
+
+mul-size : tie.Need-mul-size
+mul-size c = search needs
+
+reads-requires : tie.Need-reads-requires
+reads-requires c κs = search needs
+
+copy-part-requires : tie.Need-copy-part-requires
+copy-part-requires c κs = let a = c .before .before .before .before .before .before .before .before .before .before .args in
+    let s = lent (a .memory .now) (a .image .now) in
+    let t = or-first _ _ (sym (c .before .before .before .reads .ensures) ∙ (c .before .before .if1 .taken)) in
+    (room-on-disk (a .n) (a .r) s (c .before .before .before .before .before .before .before .before .before .before .pre .1) (c .before .before .before .before .before .before .before .before .before .before .pre .0) t, room-in-memory (a .n) (a .r) s (c .before .before .before .before .before .before .before .before .before .before .pre .1) (c .before .before .before .before .before .before .before .before .before .before .pre .0) t)
+
+same-length : tie.Need-same-length
+same-length c = search needs
+
+same-length-2 : tie.Need-same-length-2
+same-length-2 c = search needs
+
+returns : tie.Need-returns
+returns c = let a = c .before .before .before .before .before .before .before .before .before .before .before .before .before .args in
+    let s = lent (a .memory .now) (a .image .now) in
+    let reading = sym (c .before .before .before .before .before .before .reads .ensures) ∙ (c .before .before .before .before .before .if1 .taken) in
+    let room = room-on-disk (a .n) (a .r) s (c .before .before .before .before .before .before .before .before .before .before .before .before .before .pre .1) (c .before .before .before .before .before .before .before .before .before .before .before .before .before .pre .0) (or-first _ _ reading) in
+    ap (λ (x : List ℕ). lent x (a .image .now)) (c .before .before .copy-part .ensures) ∙ sym (read-moved (a .n) (a .r) (a .memory .now) (a .image .now) reading room)
+
+writes-requires : tie.Need-writes-requires
+writes-requires c κs = search needs
+
+copy-part-requires-2 : tie.Need-copy-part-requires-2
+copy-part-requires-2 c κs = let a = c .before .before .before .before .before .before .before .before .before .before .before .before .args in
+    let s = lent (a .memory .now) (a .image .now) in
+    let t = or-second _ _ (sym (c .before .before .before .before .before .reads .ensures) ∙ (c .before .before .before .before .if1 .left)) ∙ (sym (c .before .before .before .writes .ensures) ∙ (c .before .before .if2 .taken)) in
+    (room-in-memory (a .n) (a .r) s (c .before .before .before .before .before .before .before .before .before .before .before .before .pre .1) (c .before .before .before .before .before .before .before .before .before .before .before .before .pre .0) t, room-on-disk (a .n) (a .r) s (c .before .before .before .before .before .before .before .before .before .before .before .before .pre .1) (c .before .before .before .before .before .before .before .before .before .before .before .before .pre .0) t)
+
+same-length-3 : tie.Need-same-length-3
+same-length-3 c = search needs
+
+same-length-4 : tie.Need-same-length-4
+same-length-4 c = search needs
+
+returns-2 : tie.Need-returns-2
+returns-2 c = let a = c .before .before .before .before .before .before .before .before .before .before .before .before .before .before .before .args in
+    let s = lent (a .memory .now) (a .image .now) in
+    let reading = sym (c .before .before .before .before .before .before .before .before .reads .ensures) ∙ (c .before .before .before .before .before .before .before .if1 .left) in
+    let writing = sym (c .before .before .before .before .before .before .writes .ensures) ∙ (c .before .before .before .before .before .if2 .taken) in
+    let room = room-in-memory (a .n) (a .r) s (c .before .before .before .before .before .before .before .before .before .before .before .before .before .before .before .pre .1) (c .before .before .before .before .before .before .before .before .before .before .before .before .before .before .before .pre .0) (or-second _ _ reading ∙ writing) in
+    ap (λ (x : List ℕ). lent (a .memory .now) x) (c .before .before .copy-part2 .ensures) ∙ sym (write-moved (a .n) (a .r) (a .memory .now) (a .image .now) reading writing room)
+
+returns-3 : tie.Need-returns-3
+returns-3 c = let a = c .before .before .before .before .before .before .before .before .before .before .args in
+    sym (none-moved (a .n) (a .r) (lent (a .memory .now) (a .image .now)) (sym (c .before .before .before .reads .ensures) ∙ (c .before .before .if1 .left)) (sym (c .before .writes .ensures) ∙ (c .if2 .left)))
+
+pub move-sectors-spec : {M : Type 1} → statement M
+move-sectors-spec =
+    tie.close
+    (tie.spec
+    cast-on-disk
+    cast-on-disk-2
+    add-on-disk
+    mul-on-disk
+    cast-in-memory
+    cast-in-memory-2
+    mul-in-memory
+    add-in-memory
+    mul-size
+    reads-requires
+    copy-part-requires
+    same-length
+    same-length-2
+    returns
+    writes-requires
+    copy-part-requires-2
+    same-length-3
+    same-length-4
+    returns-2
+    returns-3)
