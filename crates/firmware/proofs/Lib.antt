@@ -1,3 +1,4 @@
 -- First what the walks by hand stand on: a record's type, and tables that are laid over others record by record.
 pub mod Records
 pub mod Laying
+pub mod Walks

@@ -1,10 +1,15 @@
 -- The elements of the arrays and slices that the walks by hand go through: records, and numbers of steps.
+use mathlib.Core.Path.{sym, _∙_}
 use Prim.Native.Nat.{ℕ, _*_, _+_, _≤_, _<_, _^_}
 use native.Mathlib.Omega.{arith}
-use mathlib.Core.List.{List}
+use mathlib.Core.List.{List, [], _∷_, map}
+use lib.ListN.{length-map}
 use mir.Syntax.{w32}
 use mir.Val.{Val}
 use denote.RattleType.{RattleType}
+use denote.Array.{Array, each}
+use denote.Laws.{Is}
+use denote.Shadow.{shadow}
 use denote.Plain.{uint-vals, uint-tells, uint-lawful, uint-makes}
 use denote.Builtin.{u32}
 use denote.Struct.Laws as LL
@@ -45,6 +50,16 @@ a-number = record {
   lawful = λ 𝓤 H A W. uint-lawful 𝓤 H A W w32;
   makes = λ 𝓤 H A W. uint-makes 𝓤 H A W w32;
 }
+
+-- A struct holds its array's records as tuples of their fields: what is known of those is known of the records.
+each-of : (xs : List Record) (us : List Val) → shadow (each (Rec.the-field .row .Denot) (Rec.the-field .row .own) (map (Rec.the-field .into) xs) us) → shadow (each Record (R .own) xs us)
+each-of [] [] p = p
+each-of [] (u ∷ us) p = p
+each-of (x ∷ xs) [] p = p
+each-of (x ∷ xs) (u ∷ us) p = (p .0, each-of xs us (p .1))
+
+pub array-field : (c : ℕ) (xs : List Record) (vs : List Val) → Is (Array (Rec.the-field .row) c) (map (Rec.the-field .into) xs) vs → Is (Array R c) xs vs
+array-field c xs vs p = (p .0, ((p .1 .0 .0, sym (length-map xs (Rec.the-field .into)) ∙ p .1 .0 .1), each-of xs (p .0) (p .1 .1)))
 
 -- a place before the 32nd: it, the place after it and the bytes before it are numbers of the machine
 module _ {k n : ℕ} (here : k < n) (few : n ≤ mostCommands) where
