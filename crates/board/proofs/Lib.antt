@@ -1,4 +1,6 @@
--- Laws beneath the proofs of this crate.
+-- Laws beneath the proofs of this crate. First a store of two lent slices, and steps on it, one or several at once; then what two
+-- commands touch, and what the tests of a pick show; then tables that differ in their steps taken, and the loops of the two runs; last
+-- what a pick and a run tell of a caller's whole table.
 pub mod Edge
 pub mod Copying
 pub mod Moving
@@ -10,3 +12,6 @@ pub mod Opening
 pub mod Runs
 pub mod ByPicks
 pub mod Written
+pub mod Longer
+pub mod Kept
+pub mod Faces

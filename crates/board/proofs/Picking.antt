@@ -81,12 +81,13 @@ module _ (d : Drive) (many : ℕ) (s : State) (full : length (s .table) ≡ most
   unfolding sizesWrong
   sizes-handed = ap (λ (b : Bool). storeWrong d (s .store) || b) short-handed
 
+  pub handed-whole : mostCommands ≤ many → handed many s ≡ s
+  handed-whole h = ap (λ (t : List Record). record { table = t; store = s .store }) (take-all many (s .table) (omega arith))
+
   -- sizes that are right: all 32 records are handed over
   module _ (right : (storeWrong d (s .store) || ltb many mostCommands) ≡ false) where
     pub all-handed : handed many s ≡ s
-    all-handed =
-        let h = ltb-false many mostCommands (or-false (storeWrong d (s .store)) (ltb many mostCommands) right .1) in
-        ap (λ (t : List Record). record { table = t; store = s .store }) (take-all many (s .table) (omega arith))
+    all-handed = handed-whole (ltb-false many mostCommands (or-false (storeWrong d (s .store)) (ltb many mostCommands) right .1))
 
     pub sizes-right : sizesWrong d s ≡ false
     sizes-right = full-table d s (omega arith) ∙ or-false (storeWrong d (s .store)) (ltb many mostCommands) right .0

@@ -32,7 +32,7 @@ abbrev both : Ran → List ℕ → RanTaken
 both ran taken = record { ran = ran; taken = taken }
 
 module _ (d : Drive) (n : ℕ) (go : State → Tally) (s : State) where
-  reply-refused : eqb (runNumber d n s) 0 ≡ false → runReply d n go s ≡ refusedRun (runNumber d n s)
+  pub reply-refused : eqb (runNumber d n s) 0 ≡ false → runReply d n go s ≡ refusedRun (runNumber d n s)
   unfolding runReply ranTo
   reply-refused off =
       let y : ranTo d n go s ≡ atStart s = pass _ _ _ off in
@@ -44,7 +44,7 @@ module _ (d : Drive) (n : ℕ) (go : State → Tally) (s : State) where
         finished = pass (eqb (runNumber d n s) 0) (allFinished (ranTo d n go s .state .table) n) false off j;
       }
 
-  reply-accepted : (a b : ℕ) (u : State) → runNumber d n s ≡ 0 → go s ≡ tally a b u → runReply d n go s ≡ answer a b (allFinished (u .table) n)
+  pub reply-accepted : (a b : ℕ) (u : State) → runNumber d n s ≡ 0 → go s ≡ tally a b u → runReply d n go s ≡ answer a b (allFinished (u .table) n)
   unfolding runReply ranTo
   reply-accepted a b u e g =
       let on = eq-eqb (runNumber d n s) 0 e in

@@ -70,6 +70,12 @@ taken-with [] (r ∷ t) e = absurd (omega arith)
 taken-with (n ∷ ns) [] e = absurd (omega arith)
 taken-with (n ∷ ns) (r ∷ t) e = ap (λ (ms : List ℕ). n ∷ ms) (taken-with ns t (omega arith))
 
+pub with-append : (ns : List ℕ) (t u : List Record) → length ns ≡ length t → tableWith ns (t ++ u) ≡ tableWith ns t ++ u
+with-append [] [] u e = refl
+with-append [] (r ∷ t) u e = absurd (omega arith)
+with-append (n ∷ ns) [] u e = absurd (omega arith)
+with-append (n ∷ ns) (r ∷ t) u e = ap (λ (v : List Record). withTaken n r ∷ v) (with-append ns t u (omega arith))
+
 pub taken-append : (t u : List Record) → takenOf (t ++ u) ≡ takenOf t ++ takenOf u
 taken-append [] u = refl
 taken-append (r ∷ t) u = ap (λ (ns : List ℕ). r .taken ∷ ns) (taken-append t u)
