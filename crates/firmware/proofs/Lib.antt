@@ -2,3 +2,6 @@
 pub mod Records
 pub mod Laying
 pub mod Walks
+pub mod Claims
+pub mod Lent
+pub mod Parameters
