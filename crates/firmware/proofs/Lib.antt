@@ -5,3 +5,4 @@ pub mod Walks
 pub mod Claims
 pub mod Lent
 pub mod Parameters
+pub mod Running
