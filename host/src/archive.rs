@@ -121,3 +121,10 @@ pub fn look(image: &[u8], drive: Drive, sector: u32) -> &[u8] {
     let part = look_part(image, drive, sector);
     &image[part.at..part.at + part.length]
 }
+
+/// The steps of a chain from its start: those of the first `commands` records that there are, 32 of
+/// them at most.
+pub fn chain_steps(table: &[Record], commands: usize) -> u64 {
+    // SAFETY: the pointer stands beside the length of its slice.
+    unsafe { c::rosadenca_chain_steps(table.as_ptr(), table.len(), commands) }
+}

@@ -42,6 +42,31 @@ pub struct LentRan {
     pub finished: bool,
 }
 
+/// The IOPB at an address: the number of the view, and every field; all are 0 where that is not 0.
+#[repr(C)]
+#[derive(Clone, Copy, Debug, Default, PartialEq, Eq)]
+pub struct Iopb {
+    pub data_address: u32,
+    pub next_address: u32,
+    pub count: u16,
+    pub cylinder: u16,
+    pub number: u8,
+    pub errs: u8,
+    pub done: u8,
+    pub chen: u8,
+    pub sgm: u8,
+    pub command: u8,
+    pub completion: u8,
+    pub wrpt: u8,
+    pub oncl: u8,
+    pub drdy: u8,
+    pub internal: u8,
+    pub subfunction: u8,
+    pub unit: u8,
+    pub head: u8,
+    pub sector: u8,
+}
+
 /// A part of the image: so many bytes from a byte on.
 #[repr(C)]
 #[derive(Clone, Copy, Debug, Default, PartialEq, Eq)]
@@ -108,23 +133,10 @@ extern "C" {
         drive: Drive,
         sector: u32,
     ) -> Part;
-    pub(crate) fn rosadenca_view_number(memory: *const u8, memory_length: usize, at: u32) -> u8;
-    pub(crate) fn rosadenca_errs(memory: *const u8, memory_length: usize, at: u32) -> u8;
-    pub(crate) fn rosadenca_done(memory: *const u8, memory_length: usize, at: u32) -> u8;
-    pub(crate) fn rosadenca_chen(memory: *const u8, memory_length: usize, at: u32) -> u8;
-    pub(crate) fn rosadenca_sgm(memory: *const u8, memory_length: usize, at: u32) -> u8;
-    pub(crate) fn rosadenca_command(memory: *const u8, memory_length: usize, at: u32) -> u8;
-    pub(crate) fn rosadenca_completion(memory: *const u8, memory_length: usize, at: u32) -> u8;
-    pub(crate) fn rosadenca_wrpt(memory: *const u8, memory_length: usize, at: u32) -> u8;
-    pub(crate) fn rosadenca_oncl(memory: *const u8, memory_length: usize, at: u32) -> u8;
-    pub(crate) fn rosadenca_drdy(memory: *const u8, memory_length: usize, at: u32) -> u8;
-    pub(crate) fn rosadenca_internal(memory: *const u8, memory_length: usize, at: u32) -> u8;
-    pub(crate) fn rosadenca_subfunction(memory: *const u8, memory_length: usize, at: u32) -> u8;
-    pub(crate) fn rosadenca_unit(memory: *const u8, memory_length: usize, at: u32) -> u8;
-    pub(crate) fn rosadenca_count(memory: *const u8, memory_length: usize, at: u32) -> u16;
-    pub(crate) fn rosadenca_cylinder(memory: *const u8, memory_length: usize, at: u32) -> u16;
-    pub(crate) fn rosadenca_head(memory: *const u8, memory_length: usize, at: u32) -> u8;
-    pub(crate) fn rosadenca_sector(memory: *const u8, memory_length: usize, at: u32) -> u8;
-    pub(crate) fn rosadenca_data_address(memory: *const u8, memory_length: usize, at: u32) -> u32;
-    pub(crate) fn rosadenca_next_address(memory: *const u8, memory_length: usize, at: u32) -> u32;
+    pub(crate) fn rosadenca_chain_steps(
+        table: *const Record,
+        table_length: usize,
+        commands: usize,
+    ) -> u64;
+    pub(crate) fn rosadenca_view(memory: *const u8, memory_length: usize, at: u32) -> Iopb;
 }
