@@ -27,7 +27,7 @@ pub struct Record {
 /// What the walk gives: its number, and how many commands there are, 0 on a refusal.
 #[repr(C)]
 #[derive(Clone, Copy, Debug, Default, PartialEq, Eq)]
-pub struct LentWalked {
+pub struct Walked {
     pub number: u8,
     pub commands: usize,
 }
@@ -35,7 +35,7 @@ pub struct LentWalked {
 /// What a run gives: the steps taken, the picks refused, its number, whether all is finished.
 #[repr(C)]
 #[derive(Clone, Copy, Debug, Default, PartialEq, Eq)]
-pub struct LentRan {
+pub struct Ran {
     pub steps: u64,
     pub refused: u64,
     pub number: u8,
@@ -86,7 +86,7 @@ extern "C" {
         start: u32,
         table: *mut Record,
         table_length: usize,
-    ) -> LentWalked;
+    ) -> Walked;
     pub(crate) fn rosadenca_pick(
         memory: *mut u8,
         memory_length: usize,
@@ -109,7 +109,7 @@ extern "C" {
         commands: usize,
         picks: *const u8,
         picks_length: usize,
-    ) -> LentRan;
+    ) -> Ran;
     pub(crate) fn rosadenca_run_written(
         memory: *mut u8,
         memory_length: usize,
@@ -120,7 +120,7 @@ extern "C" {
         table_length: usize,
         commands: usize,
         budget: u64,
-    ) -> LentRan;
+    ) -> Ran;
     pub(crate) fn rosadenca_look_number(
         image: *const u8,
         image_length: usize,

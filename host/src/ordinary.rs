@@ -1,7 +1,7 @@
 //! A board written in the ordinary way in Rust, with the same replies and no proofs: what the
 //! firmware's speed is measured against. The tests hold it to the second program.
 
-use crate::declared::{Drive, LentRan, LentWalked, Part, Record};
+use crate::declared::{Drive, Ran, Walked, Part, Record};
 use crate::field::Fields;
 use std::ops::Range;
 
@@ -124,16 +124,16 @@ pub fn walk(
     drive: Drive,
     start: u32,
     table: &mut [Record],
-) -> LentWalked {
+) -> Walked {
     if !sizes_right(memory, image, drive, table) {
-        return LentWalked { number: 1, commands: 0 };
+        return Walked { number: 1, commands: 0 };
     }
     let mut found = [Record::default(); MOST_COMMANDS];
     match follow(memory, drive, start, &mut found) {
-        Err(number) => LentWalked { number, commands: 0 },
+        Err(number) => Walked { number, commands: 0 },
         Ok(commands) => {
             table[..commands].copy_from_slice(&found[..commands]);
-            LentWalked { number: 0, commands }
+            Walked { number: 0, commands }
         }
     }
 }
@@ -270,9 +270,9 @@ pub fn run_picks(
     table: &mut [Record],
     commands: usize,
     picks: &[u8],
-) -> LentRan {
+) -> Ran {
     let number = refused(memory, image, drive, table, commands);
-    let mut ran = LentRan { number, ..LentRan::default() };
+    let mut ran = Ran { number, ..Ran::default() };
     if number != 0 {
         return ran;
     }
@@ -297,9 +297,9 @@ pub fn run_written(
     table: &mut [Record],
     commands: usize,
     budget: u64,
-) -> LentRan {
+) -> Ran {
     let number = refused(memory, image, drive, table, commands);
-    let mut ran = LentRan { number, ..LentRan::default() };
+    let mut ran = Ran { number, ..Ran::default() };
     if number != 0 {
         return ran;
     }

@@ -3,7 +3,7 @@
 //! call on the board is the archive's. A `deck` is no call on the board: `decks` has it played.
 
 use crate::archive;
-use crate::declared::{LentRan, Record};
+use crate::declared::{Ran, Record};
 use crate::field;
 use crate::translate::{drive_of, record_of, second_fields_of, second_record_of};
 use second::run::{PicksReply, WrittenReply};
@@ -107,7 +107,7 @@ impl Player {
         let ran = self.over_table(records, |memory, image, drive, table, commands| {
             archive::run_picks(memory, image, drive, table, commands, picks)
         });
-        let LentRan { steps, refused, number, finished } = ran;
+        let Ran { steps, refused, number, finished } = ran;
         Answer::Picks(PicksReply { number, steps, refused, finished, numbers: Vec::new() })
     }
 
@@ -115,7 +115,7 @@ impl Player {
         let ran = self.over_table(records, |memory, image, drive, table, commands| {
             archive::run_written(memory, image, drive, table, commands, budget)
         });
-        let LentRan { steps, number, finished, .. } = ran;
+        let Ran { steps, number, finished, .. } = ran;
         Answer::Written(WrittenReply { number, steps, finished })
     }
 

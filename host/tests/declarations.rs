@@ -4,7 +4,7 @@
 
 mod reading;
 
-use host::declared::{Drive, Iopb, LentRan, LentWalked, Part, Record};
+use host::declared::{Drive, Iopb, Ran, Walked, Part, Record};
 use reading::{c_header, differences, rattle, rust, Declared};
 use std::mem::{align_of, offset_of, size_of};
 use std::path::{Path, PathBuf};
@@ -109,10 +109,10 @@ fn assertions() -> String {
         (byte0, "byte0"),
         (code, "code")
     );
-    layout!(text, LentWalked, "rosadenca_walked", (number, "number"), (commands, "commands"));
+    layout!(text, Walked, "rosadenca_walked", (number, "number"), (commands, "commands"));
     layout!(
         text,
-        LentRan,
+        Ran,
         "rosadenca_ran",
         (steps, "steps"),
         (refused, "refused"),
