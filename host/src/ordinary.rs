@@ -10,7 +10,7 @@
 //! by picks of 32 commands, last to first, where alone it was tried, then took 1.9 us in place of 2.7;
 //! it was hard to read. Masks without such arrays were slower than none.
 
-use crate::declared::{Drive, LentRan, LentWalked, Part, Record};
+use crate::declared::{Drive, Ran, Walked, Part, Record};
 use crate::field::Fields;
 use std::ops::Range;
 
@@ -170,19 +170,19 @@ pub fn walk(
     drive: Drive,
     start: u32,
     table: &mut [Record],
-) -> LentWalked {
+) -> Walked {
     if !sizes_right(memory, image, drive, table) {
-        return LentWalked { number: 1, commands: 0 };
+        return Walked { number: 1, commands: 0 };
     }
     let mut found = [0; MOST_COMMANDS];
     match follow(memory, start, &mut found) {
-        Err(number) => LentWalked { number, commands: 0 },
+        Err(number) => Walked { number, commands: 0 },
         Ok(commands) => {
             let bounds = Bounds::new(memory, drive);
             for (place, at) in table.iter_mut().zip(&found[..commands]) {
                 *place = record(memory, &bounds, drive, *at);
             }
-            LentWalked { number: 0, commands }
+            Walked { number: 0, commands }
         }
     }
 }
@@ -353,9 +353,9 @@ pub fn run_picks(
     table: &mut [Record],
     commands: usize,
     picks: &[u8],
-) -> LentRan {
+) -> Ran {
     let number = refused(memory, image, drive, table, commands);
-    let mut ran = LentRan { number, ..LentRan::default() };
+    let mut ran = Ran { number, ..Ran::default() };
     if number != 0 {
         return ran;
     }
@@ -392,9 +392,9 @@ pub fn run_written(
     table: &mut [Record],
     commands: usize,
     budget: u64,
-) -> LentRan {
+) -> Ran {
     let number = refused(memory, image, drive, table, commands);
-    let mut ran = LentRan { number, finished: number == 0, ..LentRan::default() };
+    let mut ran = Ran { number, finished: number == 0, ..Ran::default() };
     if number != 0 {
         return ran;
     }

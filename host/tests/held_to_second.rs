@@ -2,7 +2,7 @@
 //! and code comes up, and a board with a fault is found out.
 
 use host::boards::{Board, ARCHIVE, ORDINARY};
-use host::declared::LentRan;
+use host::declared::Ran;
 use host::differ::counts::Counts;
 use host::differ::make::play_chain;
 
@@ -48,7 +48,7 @@ fn a_faulty_reply_is_found() {
         Board {
             run_picks: |memory, image, drive, table, commands, picks| {
                 let ran = (ORDINARY.run_picks)(memory, image, drive, table, commands, picks);
-                LentRan { steps: ran.steps + ran.refused, ..ran }
+                Ran { steps: ran.steps + ran.refused, ..ran }
             },
             ..ORDINARY
         },

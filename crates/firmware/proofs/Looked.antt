@@ -1,18 +1,23 @@
--- The bytes at the place that a look names are those that 01's look hands back. Assumes nothing.
+-- Both go by the look's number: on 0 the part is the sector's own place, and else it is empty.
 use mathlib.Core.Path.{_≡_, refl}
 use Prim.Native.Nat.{ℕ}
-use mathlib.Core.Bool.{Bool, true, false}
-use mathlib.Core.List.{List}
-use lib.ListN.{take, drop}
+use mathlib.Core.Bool.{Bool, true, false, cond}
+use mathlib.Core.List.{[]}
 use lib.Dec.{eqb}
 use Rattle.meaning.specs.declared.Drive.{Drive}
-use Rattle.meaning.specs.Look.{lookNumber, lookPart}
-use Rattle.firmware.specs.Looked.{lookedPart, LookedIsLook}
+use Rattle.meaning.specs.declared.Part.{Part}
+use Rattle.meaning.specs.Store.{Store, theUnit, theDisk, area, get}
+use Rattle.meaning.specs.Sectors.{onDisk}
+use Rattle.meaning.specs.Look.{lookNumber, lookPart, lookedPart}
+use Rattle.firmware.specs.Looked.{LookedIsLook}
 
 pub looked-is-look : LookedIsLook
-unfolding lookedPart lookPart
-looked-is-look image d s = go (eqb (lookNumber image d s) 0) refl
+unfolding lookPart lookedPart get
+looked-is-look d n s = go (eqb (lookNumber d n s) 0)
   where
-    go : (b : Bool) → eqb (lookNumber image d s) 0 ≡ b → take (lookedPart image d s .length) (drop (lookedPart image d s .at) image) ≡ lookPart image d s
-    go true e = rw e refl
-    go false e = rw e refl
+    place : Bool → Part
+    place b = cond b (record { at = onDisk theUnit n .from; length = onDisk theUnit n .many }) (record { at = 0; length = 0 })
+
+    go : (b : Bool) → get (area theDisk (place b .at) (place b .length)) s ≡ cond b (get (onDisk theUnit n) s) []
+    go true = refl
+    go false = refl

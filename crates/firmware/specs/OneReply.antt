@@ -1,24 +1,29 @@
--- "no second reply could meet it": the contracts of the exported functions fix the reply and each record and byte afterwards, refusals
--- too. (Those of a look and of the fields are plain equations of the reply.) Assumes nothing.
+-- No second reply could meet the contract of an exported function (Contract 1): it fixes the answer, and memory, image and lent table
+-- after the call, on a refusal too.
 use mathlib.Core.Path.{_≡_}
-use Prim.Native.Nat.{ℕ}
+use Prim.Native.Nat.{ℕ, min}
 use mathlib.Core.List.{List}
 use Rattle.meaning.specs.declared.Drive.{Drive}
 use Rattle.meaning.specs.declared.Record.{Record}
-use Rattle.firmware.specs.declared.table.LentWalked.{LentWalked}
-use Rattle.firmware.specs.declared.table.LentRan.{LentRan}
-use Rattle.firmware.specs.Lent.{WalkGives, PickGives, PicksGive, WrittenGives}
-
--- some reply meets the postcondition P, and every reply that meets it is that one
-abbrev pub OneReply : {A : Type 0} → (A → Type 0) → Type 0
-OneReply {A} P = (v : A) × P v × ((x : A) → P x → x ≡ v)
-
--- a postcondition of a reply with memory, image and lent table as they are left
-abbrev pub OneOutcome : {A : Type 0} → (A → List ℕ → List ℕ → List Record → Type 0) → Type 0
-OneOutcome {A} P = OneReply (λ (x : A × List ℕ × List ℕ × List Record). P (x .0) (x .1) (x .2) (x .3))
+use Rattle.meaning.specs.declared.Walked.{Walked}
+use Rattle.meaning.specs.declared.Ran.{Ran}
+use Rattle.meaning.specs.declared.Part.{Part}
+use Rattle.meaning.specs.declared.Iopb.{Iopb}
+use Rattle.meaning.specs.Store.{Store}
+use Rattle.meaning.specs.State.{State, mostCommands}
+use Rattle.meaning.specs.Walk.{WalkGives}
+use Rattle.meaning.specs.Pick.{PickGives}
+use Rattle.meaning.specs.Run.{chainSteps, byPicks, asWritten, RunGives}
+use Rattle.meaning.specs.Look.{lookNumber, lookedPart}
+use Rattle.meaning.specs.View.{viewOf}
+use Rattle.meaning.specs.OneReply.{OneReply}
 
 pub record EachHasOneReply : Type 0 where
-  pub walk : (m i : List ℕ) (d : Drive) (start : ℕ) (t : List Record) → OneReply (λ (x : LentWalked × List Record). WalkGives m i d start t (x .0) (x .1))
-  pub pick : (d : Drive) (n p : ℕ) (m i : List ℕ) (t : List Record) → OneOutcome (PickGives d n p m i t)
-  pub run-by-picks : (d : Drive) (n : ℕ) (ps m i : List ℕ) (t : List Record) → OneOutcome (PicksGive d n ps m i t)
-  pub run-as-written : (d : Drive) (n b : ℕ) (m i : List ℕ) (t : List Record) → OneOutcome (WrittenGives d n b m i t)
+  pub walk : (d : Drive) (start : ℕ) (s : State) → OneReply (λ (x : Walked × List Record). WalkGives d start s (x .0) (x .1))
+  pub pick : (d : Drive) (n p : ℕ) (s : State) → OneReply (λ (x : ℕ × State). PickGives d n p s (x .0) (x .1))
+  pub run-by-picks : (d : Drive) (n : ℕ) (ps : List ℕ) (s : State) → OneReply (λ (x : Ran × State). RunGives d n (byPicks d n ps) s (x .0) (x .1))
+  pub run-as-written : (d : Drive) (n b : ℕ) (s : State) → OneReply (λ (x : Ran × State). RunGives d n (asWritten d n b) s (x .0) (x .1))
+  pub chain-steps : (t : List Record) (n : ℕ) → OneReply (λ (x : ℕ). x ≡ chainSteps t (min n mostCommands))
+  pub look-number : (d : Drive) (n : ℕ) (s : Store) → OneReply (λ (x : ℕ). x ≡ lookNumber d n s)
+  pub look : (d : Drive) (n : ℕ) (s : Store) → OneReply (λ (x : Part). x ≡ lookedPart d n s)
+  pub view : (m : List ℕ) (a : ℕ) → OneReply (λ (x : Iopb). x ≡ viewOf m a)
