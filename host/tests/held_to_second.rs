@@ -61,7 +61,7 @@ fn a_faulty_reply_is_found() {
                 once.dedup();
                 let ran = (ORDINARY.run_picks)(memory, image, drive, table, commands, &once);
                 let more = (picks.len() - once.len()) as u64;
-                LentRan { refused: ran.refused + if ran.number == 0 { more } else { 0 }, ..ran }
+                Ran { refused: ran.refused + if ran.number == 0 { more } else { 0 }, ..ran }
             },
             ..ORDINARY
         },
