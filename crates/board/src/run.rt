@@ -187,7 +187,7 @@ pub fn picks_taken(
                 earlier += 1;
                 continue;
             }
-            if touch::conflict(e, r) {
+            if touch::conflict(table[earlier], r) {
                 searched[place] = earlier;
                 passed += 1;
                 continue 'picks;
