@@ -121,12 +121,11 @@ pub fn pick_record<'a>(
     }
     let mut earlier = 0;
     while earlier < place {
-        let e = table[earlier];
-        if command::finished(e) {
+        if command::finished(table[earlier]) {
             earlier += 1;
             continue;
         }
-        if touch::conflict(e, r) {
+        if touch::conflict(table[earlier], r) {
             return refused(6);
         }
         earlier += 1;

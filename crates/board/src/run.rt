@@ -191,7 +191,7 @@ pub fn picks_taken<'a>(
                 earlier += 1;
                 continue;
             }
-            if touch::conflict(e, r) {
+            if touch::conflict(table[earlier], r) {
                 searched[place] = earlier;
                 passed += 1;
                 continue 'picks;

@@ -19,12 +19,13 @@ use lib.Dec.{eqb}
 use Rattle.meaning.specs.declared.Ran.{Ran}
 use Rattle.meaning.specs.Each.{someOf}
 use Rattle.meaning.specs.Command.{finished}
+use Rattle.meaning.specs.Touch.{conflict}
 use Rattle.meaning.specs.Pick.{waits, placeNumber}
 use Rattle.board.specs.Changes.{withTaken, RunTakes}
 use Rattle.board.proofs.Moving.{steps-small}
 use Rattle.board.proofs.Searching.{none-more, some-here, blocking, finished-free, by-conflict, Searched, searched-to}
 use Rattle.board.proofs.Picking.{no-place, is-finished, has-to-wait, may-go}
-use Rattle.board.proofs.Taken.{length-with}
+use Rattle.board.proofs.Taken.{length-with, conflict-with}
 use Rattle.board.proofs.ByPicks.{PicksLeft, picks-begin, in-use-few, at-place, searched-on, pick-passed-over, some-left, pick-ready, all-picked, finished-by-count}
 use Rattle.board.proofs.Again.{picks-in-a-row}
 use Rattle.board.proofs.run.picks_taken.Statement.{statement}
@@ -85,6 +86,9 @@ there : (c : tie.After-with-taken2 Inv-loop μ-loop Inv-loop2 μ-loop2 Inv-picks
 there c = let a = c .before .before .before .before .before .before .before .before .before .before .before .before .before .before .before .before .before .before .before .before .before .args in
     let l = c .before .before .before .before .before .before .before .before .before .before .before .picks in
     (c .with-taken2 .ensures) ∙ at-place (a .d) (a .commands) (a .picks .now) (a .memory .now) (a .image .now) (a .t4) (l .memory) (l .image) (l .taken) (l .searched) (l .steps) (l .passed) (l .next) (l .inv) (c .before .before .before .loop2 .earlier) (let h = in-table (c .before .before .before .before .before .before .before .before) in let b = (c .before .before .loop2-test .taken) in omega arith)
+
+untaken : (c : tie.After-with-taken2 Inv-loop μ-loop Inv-loop2 μ-loop2 Inv-picks μ-picks) → conflict (c .with-taken2 .result) (c .before .before .before .before .before .before .with-taken .result) ≡ conflict (getD (c .before .before .before .before .before .before .before .before .before .before .before .before .before .before .before .before .before .before .before .before .before .args .t4) (c .before .before .before .loop2 .earlier) noRecord) (c .before .before .before .before .before .before .with-taken .result)
+untaken c = ap (λ (x : Record). conflict x (c .before .before .before .before .before .before .with-taken .result)) (c .with-taken2 .ensures) ∙ conflict-with (getD (c .before .before .before .before .before .before .before .before .before .before .before .picks .taken) (c .before .before .before .loop2 .earlier) 0) (getD (c .before .before .before .before .before .before .before .before .before .before .before .before .before .before .before .before .before .before .before .before .before .args .t4) (c .before .before .before .loop2 .earlier) noRecord) (c .before .before .before .before .before .before .with-taken .result)
 
 inside : (c : tie.In-loop2 Inv-loop μ-loop Inv-loop2 μ-loop2 Inv-picks μ-picks) → let a = (c .before .before .before .before .before .before .before .before .before .before .before .before .before .before .before .before .before .before .before .args) in let l = (c .before .before .before .before .before .before .before .before .before .picks) in (c .before .loop2 .earlier) < length (tableWith (l .taken) (a .t4))
 inside c = let a = c .before .before .before .before .before .before .before .before .before .before .before .before .before .before .before .before .before .before .before .args in
@@ -263,49 +267,55 @@ loop2-again c = let a = c .before .before .before .before .before .before .befor
     let t = tableWith (l .taken) (a .t4) in
     (omega arith, e .inv .1, e .inv .2, none-more noRecord (blocking (c .before .before .before .before .before .before .before .before .with-taken .result)) t (e .earlier) (inside (c .before .before .before .before)) (e .inv .3) (ap (blocking (c .before .before .before .before .before .before .before .before .with-taken .result)) (sym (there (c .before .before))) ∙ finished-free (c .before .before .before .before .before .before .before .before .with-taken .result) (c .before .before .with-taken2 .result) (sym (c .before .finished2 .ensures) ∙ (c .if4 .taken))))
 
+mul-conflict : tie.Need-mul-conflict Inv-loop μ-loop Inv-loop2 μ-loop2 Inv-picks μ-picks
+mul-conflict c = omega (arith, in-table (c .before .before .before .before .before .before .before .before .before .before))
+
+array-copy-out-conflict : tie.Need-array-copy-out-conflict Inv-loop μ-loop Inv-loop2 μ-loop2 Inv-picks μ-picks
+array-copy-out-conflict c = omega (arith, in-table (c .before .before .before .before .before .before .before .before .before .before))
+
 conflict-requires : tie.Need-conflict-requires Inv-loop μ-loop Inv-loop2 μ-loop2 Inv-picks μ-picks
 conflict-requires c κs = search needs
 
 mul-searched : tie.Need-mul-searched Inv-loop μ-loop Inv-loop2 μ-loop2 Inv-picks μ-picks
-mul-searched c = omega (arith, in-table (c .before .before .before .before .before .before .before .before .before .before .before .before))
+mul-searched c = omega (arith, in-table (c .before .before .before .before .before .before .before .before .before .before .before .before .before))
 
 array-write-searched : tie.Need-array-write-searched Inv-loop μ-loop Inv-loop2 μ-loop2 Inv-picks μ-picks
-array-write-searched c = let e = ap length (c .before .before .before .before .before .before .before .loop2 .inv .1) in omega (arith, in-table (c .before .before .before .before .before .before .before .before .before .before .before .before), (c .before .before .before .before .before .before .before .before .before .before .before .before .before .before .before .picks .inv .search .long))
+array-write-searched c = let e = ap length (c .before .before .before .before .before .before .before .before .loop2 .inv .1) in omega (arith, in-table (c .before .before .before .before .before .before .before .before .before .before .before .before .before), (c .before .before .before .before .before .before .before .before .before .before .before .before .before .before .before .before .picks .inv .search .long))
 
 add-passed-3 : tie.Need-add-passed-3 Inv-loop μ-loop Inv-loop2 μ-loop2 Inv-picks μ-picks
-add-passed-3 c = omega (arith, (c .before .before .before .before .before .before .before .loop2 .inv .2), (c .before .before .before .before .before .before .before .before .before .before .before .before .before .before .before .picks .inv .counted), (c .before .before .before .before .before .before .before .before .before .before .before .before .before .before .before .picks .inv .most), (c .before .before .before .before .before .before .before .before .before .before .before .before .before .before .before .before .before .before .before .before .before .before .before .before .before .good))
+add-passed-3 c = omega (arith, (c .before .before .before .before .before .before .before .before .loop2 .inv .2), (c .before .before .before .before .before .before .before .before .before .before .before .before .before .before .before .before .picks .inv .counted), (c .before .before .before .before .before .before .before .before .before .before .before .before .before .before .before .before .picks .inv .most), (c .before .before .before .before .before .before .before .before .before .before .before .before .before .before .before .before .before .before .before .before .before .before .before .before .before .before .good))
 
 picks-less-3 : tie.Need-picks-less-3 Inv-loop μ-loop Inv-loop2 μ-loop2 Inv-picks μ-picks
-picks-less-3 c = omega (arith, (c .before .before .before .before .before .before .before .before .before .before .before .before .before .before .picks-test .taken))
+picks-less-3 c = omega (arith, (c .before .before .before .before .before .before .before .before .before .before .before .before .before .before .before .picks-test .taken))
 
 picks-again-3 : tie.Need-picks-again-3 Inv-loop μ-loop Inv-loop2 μ-loop2 Inv-picks μ-picks
 unfolding waits
-picks-again-3 c = let a = c .before .before .before .before .before .before .before .before .before .before .before .before .before .before .before .before .before .before .before .before .before .before .before .before .before .args in
-    let l = c .before .before .before .before .before .before .before .before .before .before .before .before .before .before .before .picks in
+picks-again-3 c = let a = c .before .before .before .before .before .before .before .before .before .before .before .before .before .before .before .before .before .before .before .before .before .before .before .before .before .before .args in
+    let l = c .before .before .before .before .before .before .before .before .before .before .before .before .before .before .before .before .picks in
     let p = getD (a .picks .now) (l .next) 0 in
     let t = tableWith (l .taken) (a .t4) in
-    let e = c .before .before .before .before .before .before .before .loop2 in
-    let blocked = sym (λ j. blocking (here (c .before .before .before .before .before .before .before .before .before .before) j) (there (c .before .before .before .before) j)) ∙ by-conflict (c .before .before .before .before .before .before .before .before .before .before .with-taken .result) (c .before .before .before .before .with-taken2 .result) _ (sym (c .before .before .before .finished2 .ensures) ∙ (c .before .before .if4 .left)) (sym (c .before .conflict .ensures) ∙ (c .if5 .taken)) in
-    let open-yet = ap finished (sym (here (c .before .before .before .before .before .before .before .before .before .before))) ∙ sym (c .before .before .before .before .before .before .before .before .before .finished .ensures) ∙ (c .before .before .before .before .before .before .before .before .if3 .left) in
-    let six = has-to-wait t (a .commands) p (c .before .before .before .before .before .before .before .before .before .before .before .before .if2 .left) open-yet (some-here noRecord (blocking (getD t p noRecord)) t (e .earlier) p (c .before .before .before .before .before .before .loop2-test .taken) (inside (c .before .before .before .before .before .before)) blocked) in
-    let to = searched-to t (l .searched) p (e .earlier) (l .inv .search) (in-table (c .before .before .before .before .before .before .before .before .before .before .before .before)) (e .inv .0) (clear (c .before .before .before .before .before .before .before)) in
+    let e = c .before .before .before .before .before .before .before .before .loop2 in
+    let blocked = sym (λ j. blocking (here (c .before .before .before .before .before .before .before .before .before .before .before) j) (there (c .before .before .before .before .before) j)) ∙ by-conflict (c .before .before .before .before .before .before .before .before .before .before .before .with-taken .result) (c .before .before .before .before .before .with-taken2 .result) _ (sym (c .before .before .before .before .finished2 .ensures) ∙ (c .before .before .before .if4 .left)) (untaken (c .before .before .before .before .before) ∙ sym (c .before .conflict .ensures) ∙ (c .if5 .taken)) in
+    let open-yet = ap finished (sym (here (c .before .before .before .before .before .before .before .before .before .before .before))) ∙ sym (c .before .before .before .before .before .before .before .before .before .before .finished .ensures) ∙ (c .before .before .before .before .before .before .before .before .before .if3 .left) in
+    let six = has-to-wait t (a .commands) p (c .before .before .before .before .before .before .before .before .before .before .before .before .before .if2 .left) open-yet (some-here noRecord (blocking (getD t p noRecord)) t (e .earlier) p (c .before .before .before .before .before .before .before .loop2-test .taken) (inside (c .before .before .before .before .before .before .before)) blocked) in
+    let to = searched-to t (l .searched) p (e .earlier) (l .inv .search) (in-table (c .before .before .before .before .before .before .before .before .before .before .before .before .before)) (e .inv .0) (clear (c .before .before .before .before .before .before .before .before)) in
     subst (λ (x : List ℕ). PicksLeft (a .d) (a .commands) (a .picks .now) (a .memory .now) (a .image .now) (a .t4) (l .memory) (l .image) (l .taken) (set x p (e .earlier)) (l .steps) (e .passed + 1) (l .next + 1)) (sym (e .inv .1))
     (subst (λ (x : ℕ). PicksLeft (a .d) (a .commands) (a .picks .now) (a .memory .now) (a .image .now) (a .t4) (l .memory) (l .image) (l .taken) (set (l .searched) p (e .earlier)) (l .steps) (x + 1) (l .next + 1)) (sym (e .inv .2))
-    (pick-passed-over (a .d) (a .commands) (a .picks .now) (a .memory .now) (a .image .now) (a .t4) (l .memory) (l .image) (l .taken) (set (l .searched) p (e .earlier)) (l .steps) (l .passed) (l .next) (searched-on (a .d) (a .commands) (a .picks .now) (a .memory .now) (a .image .now) (a .t4) (l .memory) (l .image) (l .taken) (l .searched) (l .steps) (l .passed) (l .next) (l .inv) (set (l .searched) p (e .earlier)) to) (c .before .before .before .before .before .before .before .before .before .before .before .before .before .before .picks-test .taken) (λ q. omega (arith, six, q))))
+    (pick-passed-over (a .d) (a .commands) (a .picks .now) (a .memory .now) (a .image .now) (a .t4) (l .memory) (l .image) (l .taken) (set (l .searched) p (e .earlier)) (l .steps) (l .passed) (l .next) (searched-on (a .d) (a .commands) (a .picks .now) (a .memory .now) (a .image .now) (a .t4) (l .memory) (l .image) (l .taken) (l .searched) (l .steps) (l .passed) (l .next) (l .inv) (set (l .searched) p (e .earlier)) to) (c .before .before .before .before .before .before .before .before .before .before .before .before .before .before .before .picks-test .taken) (λ q. omega (arith, six, q))))
 
 add-earlier-2 : tie.Need-add-earlier-2 Inv-loop μ-loop Inv-loop2 μ-loop2 Inv-picks μ-picks
-add-earlier-2 c = omega (arith, in-table (c .before .before .before .before .before .before .before .before .before .before .before .before))
+add-earlier-2 c = omega (arith, in-table (c .before .before .before .before .before .before .before .before .before .before .before .before .before))
 
 loop2-less-2 : tie.Need-loop2-less-2 Inv-loop μ-loop Inv-loop2 μ-loop2 Inv-picks μ-picks
 loop2-less-2 c = omega arith
 
 loop2-again-2 : tie.Need-loop2-again-2 Inv-loop μ-loop Inv-loop2 μ-loop2 Inv-picks μ-picks
-loop2-again-2 c = let a = c .before .before .before .before .before .before .before .before .before .before .before .before .before .before .before .before .before .before .before .before .before .before .before .before .before .args in
-    let l = c .before .before .before .before .before .before .before .before .before .before .before .before .before .before .before .picks in
-    let e = c .before .before .before .before .before .before .before .loop2 in
+loop2-again-2 c = let a = c .before .before .before .before .before .before .before .before .before .before .before .before .before .before .before .before .before .before .before .before .before .before .before .before .before .before .args in
+    let l = c .before .before .before .before .before .before .before .before .before .before .before .before .before .before .before .before .picks in
+    let e = c .before .before .before .before .before .before .before .before .loop2 in
     let t = tableWith (l .taken) (a .t4) in
-    (omega arith, e .inv .1, e .inv .2, none-more noRecord (blocking (c .before .before .before .before .before .before .before .before .before .before .with-taken .result)) t (e .earlier) (inside (c .before .before .before .before .before .before)) (e .inv .3)
-    (ap (blocking (c .before .before .before .before .before .before .before .before .before .before .with-taken .result)) (sym (there (c .before .before .before .before))) ∙ by-conflict (c .before .before .before .before .before .before .before .before .before .before .with-taken .result) (c .before .before .before .before .with-taken2 .result) _ (sym (c .before .before .before .finished2 .ensures) ∙ (c .before .before .if4 .left)) (sym (c .before .conflict .ensures) ∙ (c .if5 .left))))
+    (omega arith, e .inv .1, e .inv .2, none-more noRecord (blocking (c .before .before .before .before .before .before .before .before .before .before .before .with-taken .result)) t (e .earlier) (inside (c .before .before .before .before .before .before .before)) (e .inv .3)
+    (ap (blocking (c .before .before .before .before .before .before .before .before .before .before .before .with-taken .result)) (sym (there (c .before .before .before .before .before))) ∙ by-conflict (c .before .before .before .before .before .before .before .before .before .before .before .with-taken .result) (c .before .before .before .before .before .with-taken2 .result) _ (sym (c .before .before .before .before .finished2 .ensures) ∙ (c .before .before .before .if4 .left)) (untaken (c .before .before .before .before .before) ∙ sym (c .before .conflict .ensures) ∙ (c .if5 .left))))
 
 mul-searched-2 : tie.Need-mul-searched-2 Inv-loop μ-loop Inv-loop2 μ-loop2 Inv-picks μ-picks
 mul-searched-2 c = omega (arith, in-table (c .before .before .before .before .before .before))
@@ -438,6 +448,8 @@ picks-taken-spec =
     add-earlier
     loop2-less
     loop2-again
+    mul-conflict
+    array-copy-out-conflict
     conflict-requires
     mul-searched
     array-write-searched
