@@ -8,5 +8,3 @@ pub mod Lent
 pub mod Parameters
 pub mod Running
 pub mod Agree
-pub mod Looked
-pub mod OneReply
