@@ -80,6 +80,8 @@ static bool walk(lent *host)
     }
     for (size_t place = 0; place < host->commands; place++)
         printf("  place %zu: %s\n", place, wishes[place].wants);
+    uint64_t steps = rosadenca_chain_steps(host->table, ROSADENCA_MOST_COMMANDS, host->commands);
+    printf("  together they have %" PRIu64 " steps\n", steps);
     return true;
 }
 
@@ -93,9 +95,9 @@ static void pick(lent *host, size_t place)
         return;
     }
     const rosadenca_record *record = &host->table[place];
-    uint32_t iopb = record->iopb;
+    rosadenca_iopb iopb = rosadenca_view(host->memory, MEMORY_BYTES, record->iopb);
     printf("  pick %zu: one step taken, the command's step %" PRIu32, place, record->taken);
-    puts(rosadenca_done(host->memory, MEMORY_BYTES, iopb) ? ", and it is closed." : "; it is not closed yet.");
+    puts(iopb.done ? ", and it is closed." : "; it is not closed yet.");
 }
 
 /* Lets the board do what is left. Whether all is finished. */
@@ -117,10 +119,9 @@ static void report(const lent *host)
 {
     puts("Each IOPB holds its status now:");
     for (size_t place = 0; place < host->commands; place++) {
-        uint32_t iopb = (uint32_t)(IOPB_SPACING * place);
-        uint8_t code = rosadenca_completion(host->memory, MEMORY_BYTES, iopb);
-        printf("  place %zu: DONE %d, ERRS %d, code %02X: %s\n", place, rosadenca_done(host->memory, MEMORY_BYTES, iopb),
-               rosadenca_errs(host->memory, MEMORY_BYTES, iopb), code, code_in_words(code));
+        rosadenca_iopb iopb = rosadenca_view(host->memory, MEMORY_BYTES, (uint32_t)(IOPB_SPACING * place));
+        printf("  place %zu: DONE %d, ERRS %d, code %02X: %s\n", place, iopb.done, iopb.errs, iopb.completion,
+               code_in_words(iopb.completion));
     }
 }
 

@@ -111,6 +111,29 @@ typedef struct rosadenca_ran {
     bool finished;    /* whether all commands are finished now */
 } rosadenca_ran;
 
+/* The IOPB at an address: the number of the view, and every field. A bit is 0 or 1. Where the number is not 0, every field is 0. */
+typedef struct rosadenca_iopb {
+    uint32_t data_address; /* bytes 10-13 */
+    uint32_t next_address; /* bytes 14-17 */
+    uint16_t count;        /* bytes 8-9: count of sectors */
+    uint16_t cylinder;     /* bytes A-B */
+    uint8_t number;        /* of the view: 2 for an odd address, then 3 for thirty bytes not all in memory, else 0 */
+    uint8_t errs;          /* byte 0, bit 7: it failed */
+    uint8_t done;          /* byte 0, bit 6: it is closed */
+    uint8_t chen;          /* byte 0, bit 5: another IOPB follows */
+    uint8_t sgm;           /* byte 0, bit 4: scatter/gather */
+    uint8_t command;       /* byte 0, bits 3-0 */
+    uint8_t completion;    /* byte 1: the completion code */
+    uint8_t wrpt;          /* byte 2, bit 4: the drive is protected */
+    uint8_t oncl;          /* byte 2, bit 1: on cylinder */
+    uint8_t drdy;          /* byte 2, bit 0: drive ready */
+    uint8_t internal;      /* byte 3: internal status */
+    uint8_t subfunction;   /* byte 4 */
+    uint8_t unit;          /* byte 5, bits 2-0 */
+    uint8_t head;          /* byte C */
+    uint8_t sector;        /* byte D */
+} rosadenca_iopb;
+
 /* A part of the image: `length` bytes from its byte `at` on. */
 typedef struct rosadenca_part {
     size_t at;
@@ -147,6 +170,26 @@ ROSADENCA_AT(rosadenca_ran, steps, 0);
 ROSADENCA_AT(rosadenca_ran, refused, 8);
 ROSADENCA_AT(rosadenca_ran, number, 16);
 ROSADENCA_AT(rosadenca_ran, finished, 17);
+ROSADENCA_HOLDS(sizeof(rosadenca_iopb) == 28);
+ROSADENCA_AT(rosadenca_iopb, data_address, 0);
+ROSADENCA_AT(rosadenca_iopb, next_address, 4);
+ROSADENCA_AT(rosadenca_iopb, count, 8);
+ROSADENCA_AT(rosadenca_iopb, cylinder, 10);
+ROSADENCA_AT(rosadenca_iopb, number, 12);
+ROSADENCA_AT(rosadenca_iopb, errs, 13);
+ROSADENCA_AT(rosadenca_iopb, done, 14);
+ROSADENCA_AT(rosadenca_iopb, chen, 15);
+ROSADENCA_AT(rosadenca_iopb, sgm, 16);
+ROSADENCA_AT(rosadenca_iopb, command, 17);
+ROSADENCA_AT(rosadenca_iopb, completion, 18);
+ROSADENCA_AT(rosadenca_iopb, wrpt, 19);
+ROSADENCA_AT(rosadenca_iopb, oncl, 20);
+ROSADENCA_AT(rosadenca_iopb, drdy, 21);
+ROSADENCA_AT(rosadenca_iopb, internal, 22);
+ROSADENCA_AT(rosadenca_iopb, subfunction, 23);
+ROSADENCA_AT(rosadenca_iopb, unit, 24);
+ROSADENCA_AT(rosadenca_iopb, head, 25);
+ROSADENCA_AT(rosadenca_iopb, sector, 26);
 ROSADENCA_HOLDS(sizeof(rosadenca_part) == 16);
 ROSADENCA_AT(rosadenca_part, at, 0);
 ROSADENCA_AT(rosadenca_part, length, 8);
@@ -204,33 +247,15 @@ uint8_t rosadenca_look_number(const uint8_t *image, size_t image_length, rosaden
 rosadenca_part rosadenca_look(const uint8_t *image, size_t image_length, rosadenca_drive drive, uint32_t sector);
 
 /*
- * The number of a view of the IOPB at an address: 2 for an odd address, then 3 for thirty bytes not all in memory, else 0
- * (View 3 to 5). Changes nothing.
+ * The steps of a chain from its start, whatever is taken of them: the sum of the steps of the first `commands` records of the table, of
+ * 32 of them at most and of no more than the table has (Run 6). Changes nothing.
  */
-uint8_t rosadenca_view_number(const uint8_t *memory, size_t memory_length, uint32_t at);
+uint64_t rosadenca_chain_steps(const rosadenca_record *table, size_t table_length, size_t commands);
 
 /*
- * The fields of the IOPB at an address (IOPB 3 to 14): every one is 0 where rosadenca_view_number is not 0 (View 7). A bit is 0 or 1.
- * They change nothing.
+ * The IOPB at an address, with the number of the view (View 2 to 7; the fields are IOPB 3 to 14). Changes nothing.
  */
-uint8_t rosadenca_errs(const uint8_t *memory, size_t memory_length, uint32_t at);        /* byte 0, bit 7: it failed */
-uint8_t rosadenca_done(const uint8_t *memory, size_t memory_length, uint32_t at);        /* byte 0, bit 6: it is closed */
-uint8_t rosadenca_chen(const uint8_t *memory, size_t memory_length, uint32_t at);        /* byte 0, bit 5: another IOPB follows */
-uint8_t rosadenca_sgm(const uint8_t *memory, size_t memory_length, uint32_t at);         /* byte 0, bit 4 */
-uint8_t rosadenca_command(const uint8_t *memory, size_t memory_length, uint32_t at);     /* byte 0, bits 3-0 */
-uint8_t rosadenca_completion(const uint8_t *memory, size_t memory_length, uint32_t at);  /* byte 1: the completion code */
-uint8_t rosadenca_wrpt(const uint8_t *memory, size_t memory_length, uint32_t at);        /* byte 2, bit 4: the drive is protected */
-uint8_t rosadenca_oncl(const uint8_t *memory, size_t memory_length, uint32_t at);        /* byte 2, bit 1: on cylinder */
-uint8_t rosadenca_drdy(const uint8_t *memory, size_t memory_length, uint32_t at);        /* byte 2, bit 0: drive ready */
-uint8_t rosadenca_internal(const uint8_t *memory, size_t memory_length, uint32_t at);    /* byte 3: internal status */
-uint8_t rosadenca_subfunction(const uint8_t *memory, size_t memory_length, uint32_t at); /* byte 4 */
-uint8_t rosadenca_unit(const uint8_t *memory, size_t memory_length, uint32_t at);        /* byte 5, bits 2-0 */
-uint16_t rosadenca_count(const uint8_t *memory, size_t memory_length, uint32_t at);      /* bytes 8-9: count of sectors */
-uint16_t rosadenca_cylinder(const uint8_t *memory, size_t memory_length, uint32_t at);   /* bytes A-B */
-uint8_t rosadenca_head(const uint8_t *memory, size_t memory_length, uint32_t at);        /* byte C */
-uint8_t rosadenca_sector(const uint8_t *memory, size_t memory_length, uint32_t at);      /* byte D */
-uint32_t rosadenca_data_address(const uint8_t *memory, size_t memory_length, uint32_t at); /* bytes 10-13 */
-uint32_t rosadenca_next_address(const uint8_t *memory, size_t memory_length, uint32_t at); /* bytes 14-17 */
+rosadenca_iopb rosadenca_view(const uint8_t *memory, size_t memory_length, uint32_t at);
 
 #ifdef __cplusplus
 }

@@ -11,6 +11,7 @@
 #define false 0
 #define true 1
 #define NULL ((void *)0)
+#define offsetof(type, field) __builtin_offsetof(type, field)
 typedef __SIZE_TYPE__ size_t;
 typedef __UINT8_TYPE__ uint8_t;
 typedef __UINT16_TYPE__ uint16_t;

@@ -3,7 +3,7 @@
 //! so nothing that a caller can pass here breaks what the C header says a caller owes.
 
 use crate::declared as c;
-use crate::declared::{Drive, LentRan, LentWalked, Part, Record};
+use crate::declared::{Drive, Ran, Walked, Part, Record};
 
 /// Walks the chain that starts at an address into the lent table.
 pub fn walk(
@@ -12,7 +12,7 @@ pub fn walk(
     drive: Drive,
     start: u32,
     table: &mut [Record],
-) -> LentWalked {
+) -> Walked {
     // SAFETY: every pointer stands beside the length of its own slice, and the slices are apart.
     unsafe {
         c::rosadenca_walk(
@@ -61,7 +61,7 @@ pub fn run_picks(
     table: &mut [Record],
     commands: usize,
     picks: &[u8],
-) -> LentRan {
+) -> Ran {
     // SAFETY: as for the walk.
     unsafe {
         c::rosadenca_run_picks(
@@ -87,7 +87,7 @@ pub fn run_written(
     table: &mut [Record],
     commands: usize,
     budget: u64,
-) -> LentRan {
+) -> Ran {
     // SAFETY: as for the walk.
     unsafe {
         c::rosadenca_run_written(
@@ -120,4 +120,11 @@ pub fn look_part(image: &[u8], drive: Drive, sector: u32) -> Part {
 pub fn look(image: &[u8], drive: Drive, sector: u32) -> &[u8] {
     let part = look_part(image, drive, sector);
     &image[part.at..part.at + part.length]
+}
+
+/// The steps of a chain from its start: those of the first `commands` records that there are, 32 of
+/// them at most.
+pub fn chain_steps(table: &[Record], commands: usize) -> u64 {
+    // SAFETY: the pointer stands beside the length of its slice.
+    unsafe { c::rosadenca_chain_steps(table.as_ptr(), table.len(), commands) }
 }

@@ -27,7 +27,7 @@ pub struct Record {
 /// What the walk gives: its number, and how many commands there are, 0 on a refusal.
 #[repr(C)]
 #[derive(Clone, Copy, Debug, Default, PartialEq, Eq)]
-pub struct LentWalked {
+pub struct Walked {
     pub number: u8,
     pub commands: usize,
 }
@@ -35,11 +35,36 @@ pub struct LentWalked {
 /// What a run gives: the steps taken, the picks refused, its number, whether all is finished.
 #[repr(C)]
 #[derive(Clone, Copy, Debug, Default, PartialEq, Eq)]
-pub struct LentRan {
+pub struct Ran {
     pub steps: u64,
     pub refused: u64,
     pub number: u8,
     pub finished: bool,
+}
+
+/// The IOPB at an address: the number of the view, and every field; all are 0 where that is not 0.
+#[repr(C)]
+#[derive(Clone, Copy, Debug, Default, PartialEq, Eq)]
+pub struct Iopb {
+    pub data_address: u32,
+    pub next_address: u32,
+    pub count: u16,
+    pub cylinder: u16,
+    pub number: u8,
+    pub errs: u8,
+    pub done: u8,
+    pub chen: u8,
+    pub sgm: u8,
+    pub command: u8,
+    pub completion: u8,
+    pub wrpt: u8,
+    pub oncl: u8,
+    pub drdy: u8,
+    pub internal: u8,
+    pub subfunction: u8,
+    pub unit: u8,
+    pub head: u8,
+    pub sector: u8,
 }
 
 /// A part of the image: so many bytes from a byte on.
@@ -61,7 +86,7 @@ extern "C" {
         start: u32,
         table: *mut Record,
         table_length: usize,
-    ) -> LentWalked;
+    ) -> Walked;
     pub(crate) fn rosadenca_pick(
         memory: *mut u8,
         memory_length: usize,
@@ -84,7 +109,7 @@ extern "C" {
         commands: usize,
         picks: *const u8,
         picks_length: usize,
-    ) -> LentRan;
+    ) -> Ran;
     pub(crate) fn rosadenca_run_written(
         memory: *mut u8,
         memory_length: usize,
@@ -95,7 +120,7 @@ extern "C" {
         table_length: usize,
         commands: usize,
         budget: u64,
-    ) -> LentRan;
+    ) -> Ran;
     pub(crate) fn rosadenca_look_number(
         image: *const u8,
         image_length: usize,
@@ -108,23 +133,10 @@ extern "C" {
         drive: Drive,
         sector: u32,
     ) -> Part;
-    pub(crate) fn rosadenca_view_number(memory: *const u8, memory_length: usize, at: u32) -> u8;
-    pub(crate) fn rosadenca_errs(memory: *const u8, memory_length: usize, at: u32) -> u8;
-    pub(crate) fn rosadenca_done(memory: *const u8, memory_length: usize, at: u32) -> u8;
-    pub(crate) fn rosadenca_chen(memory: *const u8, memory_length: usize, at: u32) -> u8;
-    pub(crate) fn rosadenca_sgm(memory: *const u8, memory_length: usize, at: u32) -> u8;
-    pub(crate) fn rosadenca_command(memory: *const u8, memory_length: usize, at: u32) -> u8;
-    pub(crate) fn rosadenca_completion(memory: *const u8, memory_length: usize, at: u32) -> u8;
-    pub(crate) fn rosadenca_wrpt(memory: *const u8, memory_length: usize, at: u32) -> u8;
-    pub(crate) fn rosadenca_oncl(memory: *const u8, memory_length: usize, at: u32) -> u8;
-    pub(crate) fn rosadenca_drdy(memory: *const u8, memory_length: usize, at: u32) -> u8;
-    pub(crate) fn rosadenca_internal(memory: *const u8, memory_length: usize, at: u32) -> u8;
-    pub(crate) fn rosadenca_subfunction(memory: *const u8, memory_length: usize, at: u32) -> u8;
-    pub(crate) fn rosadenca_unit(memory: *const u8, memory_length: usize, at: u32) -> u8;
-    pub(crate) fn rosadenca_count(memory: *const u8, memory_length: usize, at: u32) -> u16;
-    pub(crate) fn rosadenca_cylinder(memory: *const u8, memory_length: usize, at: u32) -> u16;
-    pub(crate) fn rosadenca_head(memory: *const u8, memory_length: usize, at: u32) -> u8;
-    pub(crate) fn rosadenca_sector(memory: *const u8, memory_length: usize, at: u32) -> u8;
-    pub(crate) fn rosadenca_data_address(memory: *const u8, memory_length: usize, at: u32) -> u32;
-    pub(crate) fn rosadenca_next_address(memory: *const u8, memory_length: usize, at: u32) -> u32;
+    pub(crate) fn rosadenca_chain_steps(
+        table: *const Record,
+        table_length: usize,
+        commands: usize,
+    ) -> u64;
+    pub(crate) fn rosadenca_view(memory: *const u8, memory_length: usize, at: u32) -> Iopb;
 }

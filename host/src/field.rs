@@ -26,37 +26,39 @@ pub struct Fields {
     pub next_address: u32,
 }
 
+/// What the archive shows of the IOPB at an address.
+fn seen(memory: &[u8], at: u32) -> c::Iopb {
+    // SAFETY: the pointer stands beside the length of its slice.
+    unsafe { c::rosadenca_view(memory.as_ptr(), memory.len(), at) }
+}
+
 /// The number of a viewer's making: 2 for an odd address, then 3 for thirty bytes not all in
 /// memory, else 0.
 pub fn view_number(memory: &[u8], at: u32) -> u8 {
-    // SAFETY: the pointer stands beside the length of its slice.
-    unsafe { c::rosadenca_view_number(memory.as_ptr(), memory.len(), at) }
+    seen(memory, at).number
 }
 
-/// All eighteen fields of the IOPB at an address, each by its own function of the archive.
+/// All eighteen fields of the IOPB at an address.
 pub fn view(memory: &[u8], at: u32) -> Fields {
-    let (bytes, length) = (memory.as_ptr(), memory.len());
-    // SAFETY: the pointer stands beside the length of its slice, which lives through all calls.
-    unsafe {
-        Fields {
-            errs: c::rosadenca_errs(bytes, length, at),
-            done: c::rosadenca_done(bytes, length, at),
-            chen: c::rosadenca_chen(bytes, length, at),
-            sgm: c::rosadenca_sgm(bytes, length, at),
-            command: c::rosadenca_command(bytes, length, at),
-            completion: c::rosadenca_completion(bytes, length, at),
-            wrpt: c::rosadenca_wrpt(bytes, length, at),
-            oncl: c::rosadenca_oncl(bytes, length, at),
-            drdy: c::rosadenca_drdy(bytes, length, at),
-            internal: c::rosadenca_internal(bytes, length, at),
-            subfunction: c::rosadenca_subfunction(bytes, length, at),
-            unit: c::rosadenca_unit(bytes, length, at),
-            count: c::rosadenca_count(bytes, length, at),
-            cylinder: c::rosadenca_cylinder(bytes, length, at),
-            head: c::rosadenca_head(bytes, length, at),
-            sector: c::rosadenca_sector(bytes, length, at),
-            data_address: c::rosadenca_data_address(bytes, length, at),
-            next_address: c::rosadenca_next_address(bytes, length, at),
-        }
+    let iopb = seen(memory, at);
+    Fields {
+        errs: iopb.errs,
+        done: iopb.done,
+        chen: iopb.chen,
+        sgm: iopb.sgm,
+        command: iopb.command,
+        completion: iopb.completion,
+        wrpt: iopb.wrpt,
+        oncl: iopb.oncl,
+        drdy: iopb.drdy,
+        internal: iopb.internal,
+        subfunction: iopb.subfunction,
+        unit: iopb.unit,
+        count: iopb.count,
+        cylinder: iopb.cylinder,
+        head: iopb.head,
+        sector: iopb.sector,
+        data_address: iopb.data_address,
+        next_address: iopb.next_address,
     }
 }

@@ -16,5 +16,6 @@ pub mod differ;
 pub mod player;
 pub mod translate;
 
-// The clock.
+// The clock, and the count of copies.
+pub mod copies;
 pub mod speed;

@@ -1,7 +1,16 @@
 //! A board written in the ordinary way in Rust, with the same replies and no proofs: what the
-//! firmware's speed is measured against. The tests hold it to the second program.
+//! firmware's speed is measured against, so it is written for speed as far as it stays easy to read.
+//! It works in the lent table and copies none, tests sizes and table once a call, moves sectors that
+//! follow each other by one copy, and within a run never asks twice whether one command waits for
+//! another. Its calls are not inlined, as the archive's cannot be, so that no caller's own numbers
+//! are worked into them. The tests hold it to the second program.
+//!
+//! Tried and left out: each field of the records in an array of its own, and for each place a mask of
+//! the earlier ones that it conflicts with, which the compiler works out several at a time. The run
+//! by picks of 32 commands, last to first, where alone it was tried, then took 1.9 us in place of 2.7;
+//! it was hard to read. Masks without such arrays were slower than none.
 
-use crate::declared::{Drive, LentRan, LentWalked, Part, Record};
+use crate::declared::{Drive, Ran, Walked, Part, Record};
 use crate::field::Fields;
 use std::ops::Range;
 
@@ -25,14 +34,33 @@ fn sizes_right(memory: &[u8], image: &[u8], drive: Drive, table: &[Record]) -> b
     memory.len() <= MEMORY_LIMIT && image_right(image, drive) && table.len() >= MOST_COMMANDS
 }
 
-/// The bytes from `at` on, if all of them are there.
-fn part(length: usize, at: u32, bytes: usize) -> Option<Range<usize>> {
-    let end = at as usize + bytes;
-    (end <= length).then_some(at as usize..end)
+/// What a transfer must keep within, worked out once for a call.
+struct Bounds {
+    memory: u64,
+    sectors: u64,
+    protected: bool,
 }
 
-/// The fields of the thirty bytes of an IOPB.
-fn fields(b: &[u8]) -> Fields {
+impl Bounds {
+    fn new(memory: &[u8], drive: Drive) -> Bounds {
+        Bounds { memory: memory.len() as u64, sectors: sectors(drive), protected: drive.protected }
+    }
+
+    fn hold_data(&self, address: u32, count: u16) -> bool {
+        u64::from(address) + SECTOR as u64 * u64::from(count) <= self.memory
+    }
+
+    fn hold_sectors(&self, first: u64, count: u16) -> bool {
+        first + u64::from(count) <= self.sectors
+    }
+}
+
+/// The thirty bytes of an IOPB, if all of them are in memory.
+fn iopb(memory: &[u8], at: u32) -> Option<&[u8; IOPB]> {
+    memory.get(at as usize..at as usize + IOPB)?.try_into().ok()
+}
+
+fn fields(b: &[u8; IOPB]) -> Fields {
     let two = |at: usize| u16::from_be_bytes([b[at], b[at + 1]]);
     let four = |at: usize| u32::from_be_bytes([b[at], b[at + 1], b[at + 2], b[at + 3]]);
     Fields {
@@ -58,7 +86,7 @@ fn fields(b: &[u8]) -> Fields {
 }
 
 /// The code that a command will get; `first` is the number of its first sector.
-fn code(memory: &[u8], drive: Drive, f: &Fields, first: u64) -> u8 {
+fn code(bounds: &Bounds, drive: Drive, f: &Fields, first: u64) -> u8 {
     if f.chen == 1 && f.next_address % 2 == 1 {
         0x1E
     } else if f.command > READ_DATA || f.sgm == 1 || f.subfunction != 0 {
@@ -75,82 +103,113 @@ fn code(memory: &[u8], drive: Drive, f: &Fields, first: u64) -> u8 {
         0x11
     } else if f.sector > drive.sector {
         0x12
-    } else if first + u64::from(f.count) > sectors(drive) {
+    } else if !bounds.hold_sectors(first, f.count) {
         0x10
-    } else if f.command == WRITE_DATA && drive.protected {
+    } else if f.command == WRITE_DATA && bounds.protected {
         0x90
-    } else if part(memory.len(), f.data_address, SECTOR * usize::from(f.count)).is_none() {
+    } else if !bounds.hold_data(f.data_address, f.count) {
         0x4B
     } else {
         0x00
     }
 }
 
-/// Walks the chain into records of its own; the error is the number.
-fn follow(memory: &[u8], drive: Drive, start: u32, found: &mut [Record; 32]) -> Result<usize, u8> {
+/// Follows the chain, and notes where its IOPBs are; the error is the number. Whether IOPBs share
+/// bytes is asked of all at once: those that were found come before what ended the search.
+fn follow(memory: &[u8], start: u32, found: &mut [u32; MOST_COMMANDS]) -> Result<usize, u8> {
     if start % 2 == 1 {
         return Err(2);
     }
-    let mut at = start;
-    for place in 0..MOST_COMMANDS {
-        let bytes = part(memory.len(), at, IOPB).ok_or(3)?;
-        if found[..place].iter().any(|earlier| at.abs_diff(earlier.iopb) < IOPB as u32) {
-            return Err(4);
+    let (mut at, mut commands) = (start, 0);
+    let ended = loop {
+        if commands == MOST_COMMANDS {
+            break Err(5);
         }
-        let f = fields(&memory[bytes]);
-        let per_track = u64::from(drive.sector) + 1;
-        let track = u64::from(f.cylinder) * (u64::from(drive.head) + 1) + u64::from(f.head);
-        let first = track * per_track + u64::from(f.sector);
-        found[place] = Record {
-            iopb: at,
-            address: f.data_address,
-            sector: first as u32,
-            taken: 0,
-            count: f.count,
-            byte0: memory[at as usize],
-            code: code(memory, drive, &f, first),
+        let Some(bytes) = iopb(memory, at) else {
+            break Err(3);
         };
+        found[commands] = at;
+        commands += 1;
+        let f = fields(bytes);
         if f.chen == 0 || f.next_address % 2 == 1 {
-            return Ok(place + 1);
+            break Ok(commands);
         }
         at = f.next_address;
+    };
+    let mut sorted = *found;
+    sorted[..commands].sort_unstable();
+    if sorted[..commands].windows(2).any(|two| two[1] - two[0] < IOPB as u32) {
+        return Err(4);
     }
-    Err(5)
+    ended
 }
 
+/// The record of the command whose IOPB is at an address.
+fn record(memory: &[u8], bounds: &Bounds, drive: Drive, at: u32) -> Record {
+    let bytes = iopb(memory, at).expect("the chain was followed through it");
+    let f = fields(bytes);
+    let track = u64::from(f.cylinder) * (u64::from(drive.head) + 1) + u64::from(f.head);
+    let first = track * (u64::from(drive.sector) + 1) + u64::from(f.sector);
+    Record {
+        iopb: at,
+        address: f.data_address,
+        sector: first as u32,
+        taken: 0,
+        count: f.count,
+        byte0: bytes[0],
+        code: code(bounds, drive, &f, first),
+    }
+}
+
+/// A refused walk leaves the table alone, so the chain is followed to its end before a record is
+/// written.
+#[inline(never)]
 pub fn walk(
     memory: &[u8],
     image: &[u8],
     drive: Drive,
     start: u32,
     table: &mut [Record],
-) -> LentWalked {
+) -> Walked {
     if !sizes_right(memory, image, drive, table) {
-        return LentWalked { number: 1, commands: 0 };
+        return Walked { number: 1, commands: 0 };
     }
-    let mut found = [Record::default(); MOST_COMMANDS];
-    match follow(memory, drive, start, &mut found) {
-        Err(number) => LentWalked { number, commands: 0 },
+    let mut found = [0; MOST_COMMANDS];
+    match follow(memory, start, &mut found) {
+        Err(number) => Walked { number, commands: 0 },
         Ok(commands) => {
-            table[..commands].copy_from_slice(&found[..commands]);
-            LentWalked { number: 0, commands }
+            let bounds = Bounds::new(memory, drive);
+            for (place, at) in table.iter_mut().zip(&found[..commands]) {
+                *place = record(memory, &bounds, drive, *at);
+            }
+            Walked { number: 0, commands }
         }
     }
 }
 
-fn writes(r: &Record) -> bool {
-    r.code == 0 && r.byte0 & 15 == WRITE_DATA
+#[derive(Clone, Copy, PartialEq, Eq)]
+enum Kind {
+    Read,
+    Write,
+    /// Moves no sector: only its status is posted.
+    Still,
 }
 
-fn reads(r: &Record) -> bool {
-    r.code == 0 && r.byte0 & 15 == READ_DATA
+fn kind(r: &Record) -> Kind {
+    // a transfer has code 00: code and command are tested as one number
+    const READ: u16 = u16::from_be_bytes([0, READ_DATA]);
+    const WRITE: u16 = u16::from_be_bytes([0, WRITE_DATA]);
+    match u16::from_be_bytes([r.code, r.byte0 & 15]) {
+        READ => Kind::Read,
+        WRITE => Kind::Write,
+        _ => Kind::Still,
+    }
 }
 
 fn steps(r: &Record) -> u32 {
-    if writes(r) || reads(r) {
-        u32::from(r.count)
-    } else {
-        1
+    match kind(r) {
+        Kind::Still => 1,
+        _ => u32::from(r.count),
     }
 }
 
@@ -158,25 +217,21 @@ fn finished(r: &Record) -> bool {
     r.taken == steps(r)
 }
 
-/// Where the data of a transfer lies in memory.
-fn data(r: &Record) -> Range<usize> {
-    r.address as usize..r.address as usize + SECTOR * usize::from(r.count)
-}
-
-fn status(r: &Record) -> Range<usize> {
-    r.iopb as usize..r.iopb as usize + 4
-}
-
-fn sound(memory: &[u8], drive: Drive, r: &Record) -> bool {
-    if part(memory.len(), r.iopb, IOPB).is_none() || r.taken > steps(r) {
+fn sound(bounds: &Bounds, r: &Record) -> bool {
+    if u64::from(r.iopb) + IOPB as u64 > bounds.memory {
         return false;
     }
-    let moves = writes(r) || reads(r);
-    !moves
-        || (r.count != 0
-            && data(r).end <= memory.len()
-            && u64::from(r.sector) + u64::from(r.count) <= sectors(drive)
-            && !(writes(r) && drive.protected))
+    match kind(r) {
+        Kind::Still => r.taken <= 1,
+        Kind::Write if bounds.protected => false,
+        // nearly always all are so: one branch for them together
+        _ => {
+            (r.count != 0)
+                & (r.taken <= u32::from(r.count))
+                & bounds.hold_data(r.address, r.count)
+                & bounds.hold_sectors(u64::from(r.sector), r.count)
+        }
+    }
 }
 
 /// The numbers that stand before any place is looked at: 1, then 9, else 0.
@@ -184,8 +239,9 @@ fn refused(memory: &[u8], image: &[u8], drive: Drive, table: &[Record], commands
     if !sizes_right(memory, image, drive, table) {
         return 1;
     }
-    let all_sound = commands <= MOST_COMMANDS
-        && table[..commands].iter().all(|record| sound(memory, drive, record));
+    let bounds = Bounds::new(memory, drive);
+    let all_sound =
+        commands <= MOST_COMMANDS && table[..commands].iter().all(|record| sound(&bounds, record));
     if all_sound {
         0
     } else {
@@ -193,57 +249,76 @@ fn refused(memory: &[u8], image: &[u8], drive: Drive, table: &[Record], commands
     }
 }
 
-fn meet(one: &Range<usize>, other: &Range<usize>) -> bool {
-    one.start < other.end && other.start < one.end
+/// What a sound command touches: its status bytes from `status` on, its data, its sectors. Where
+/// nothing moves, the last two are empty ranges, which meet no other.
+struct Touched {
+    kind: Kind,
+    status: u32,
+    data: Range<u32>,
+    sectors: Range<u32>,
 }
 
-/// Whether the first writes a data or status byte, or a sector, that the second touches.
-fn writes_into(one: &Record, other: &Record) -> bool {
-    let moves = writes(other) || reads(other);
-    let touches =
-        |bytes: &Range<usize>| meet(bytes, &status(other)) || (moves && meet(bytes, &data(other)));
-    if touches(&status(one)) || (reads(one) && touches(&data(one))) {
+fn touched(r: &Record) -> Touched {
+    let kind = kind(r);
+    let count = if kind == Kind::Still { 0 } else { u32::from(r.count) };
+    Touched {
+        kind,
+        status: r.iopb,
+        data: r.address..r.address + SECTOR as u32 * count,
+        sectors: r.sector..r.sector + count,
+    }
+}
+
+fn meet(one: &Range<u32>, other: &Range<u32>) -> bool {
+    one.start.max(other.start) < one.end.min(other.end)
+}
+
+/// Whether one of two commands writes a byte or a sector that the other touches. Both write their
+/// status; a read writes its data, a write its sectors.
+fn conflict(one: &Touched, other: &Touched) -> bool {
+    let posted = |command: &Touched| command.status..command.status + 4;
+    if meet(&posted(one), &posted(other))
+        || meet(&posted(one), &other.data)
+        || meet(&one.data, &posted(other))
+    {
         return true;
     }
-    let run = |r: &Record| r.sector as usize..r.sector as usize + usize::from(r.count);
-    writes(one) && moves && meet(&run(one), &run(other))
+    let either = |kind| one.kind == kind || other.kind == kind;
+    (either(Kind::Read) && meet(&one.data, &other.data))
+        || (either(Kind::Write) && meet(&one.sectors, &other.sectors))
 }
 
-fn number_of_pick(in_use: &[Record], place: usize) -> u8 {
-    let Some(wanted) = in_use.get(place) else {
-        return 8;
-    };
-    if finished(wanted) {
-        return 7;
-    }
-    let waits = in_use[..place].iter().any(|earlier| {
-        !finished(earlier) && (writes_into(earlier, wanted) || writes_into(wanted, earlier))
-    });
-    if waits {
-        6
-    } else {
-        0
-    }
+/// The first place from `from` on, before `place`, whose command is unfinished and conflicts.
+fn blocker(table: &[Record], from: usize, place: usize) -> Option<usize> {
+    let wanted = touched(&table[place]);
+    let blocks = |earlier: &Record| !finished(earlier) && conflict(&touched(earlier), &wanted);
+    table[from..place].iter().position(blocks).map(|found| from + found)
 }
 
 /// Takes so many steps of a command, which has as many left, and closes it after its last.
+// inlined, since a call for each command is seen at one sector a command
+#[inline(always)]
 fn take(memory: &mut [u8], image: &mut [u8], drive: Drive, r: &mut Record, taken: u32) {
     let at = r.address as usize + SECTOR * r.taken as usize;
     let on_disk = SECTOR * (r.sector as usize + r.taken as usize);
     let bytes = SECTOR * taken as usize;
-    if reads(r) {
-        memory[at..at + bytes].copy_from_slice(&image[on_disk..on_disk + bytes]);
-    } else if writes(r) {
-        image[on_disk..on_disk + bytes].copy_from_slice(&memory[at..at + bytes]);
-    }
     r.taken += taken;
+    match kind(r) {
+        Kind::Read => memory[at..at + bytes].copy_from_slice(&image[on_disk..on_disk + bytes]),
+        Kind::Write => image[on_disk..on_disk + bytes].copy_from_slice(&memory[at..at + bytes]),
+        Kind::Still => {}
+    }
     if finished(r) {
         let errs = if r.code == 0 { 0 } else { 0x80 };
         let byte2 = if drive.protected { 0x13 } else { 0x03 };
-        memory[status(r)].copy_from_slice(&[r.byte0 & 0x7F | 0x40 | errs, r.code, byte2, 0]);
+        // as one number, so that it is one store
+        let posted = u32::from_le_bytes([r.byte0 & 0x7F | 0x40 | errs, r.code, byte2, 0]);
+        let status = r.iopb as usize;
+        memory[status..status + 4].copy_from_slice(&posted.to_le_bytes());
     }
 }
 
+#[inline(never)]
 pub fn pick(
     memory: &mut [u8],
     image: &mut [u8],
@@ -254,15 +329,23 @@ pub fn pick(
 ) -> u8 {
     let number = refused(memory, image, drive, table, commands);
     if number != 0 {
-        return number;
-    }
-    let number = number_of_pick(&table[..commands], place);
-    if number == 0 {
+        number
+    } else if place >= commands {
+        8
+    } else if finished(&table[place]) {
+        7
+    } else if blocker(table, 0, place).is_some() {
+        6
+    } else {
         take(memory, image, drive, &mut table[place], 1);
+        0
     }
-    number
 }
 
+/// What two commands touch does not change in a run, and a finished command stays so. So the search
+/// at a place goes on where its last one stopped, and after a step there is none any more; and picks
+/// of one place that follow each other get one answer, as far as it has steps.
+#[inline(never)]
 pub fn run_picks(
     memory: &mut [u8],
     image: &mut [u8],
@@ -270,26 +353,38 @@ pub fn run_picks(
     table: &mut [Record],
     commands: usize,
     picks: &[u8],
-) -> LentRan {
+) -> Ran {
     let number = refused(memory, image, drive, table, commands);
-    let mut ran = LentRan { number, ..LentRan::default() };
+    let mut ran = Ran { number, ..Ran::default() };
     if number != 0 {
         return ran;
     }
-    let in_use = &mut table[..commands];
-    for place in picks {
-        let place = usize::from(*place);
-        if number_of_pick(in_use, place) == 0 {
-            take(memory, image, drive, &mut in_use[place], 1);
-            ran.steps += 1;
-        } else {
-            ran.refused += 1;
+    let mut searched = [0; MOST_COMMANDS];
+    for same in picks.chunk_by(|one, next| one == next) {
+        let (place, named) = (usize::from(same[0]), same.len() as u64);
+        let mut left = 0;
+        if place < commands {
+            left = u64::from(steps(&table[place]) - table[place].taken);
         }
+        if left > 0 {
+            let found = blocker(table, searched[place], place);
+            searched[place] = found.unwrap_or(place);
+            if found.is_some() {
+                left = 0;
+            }
+        }
+        let taken = left.min(named);
+        if taken > 0 {
+            take(memory, image, drive, &mut table[place], taken as u32);
+        }
+        ran.steps += taken;
+        ran.refused += named - taken;
     }
-    ran.finished = in_use.iter().all(finished);
+    ran.finished = table[..commands].iter().all(finished);
     ran
 }
 
+#[inline(never)]
 pub fn run_written(
     memory: &mut [u8],
     image: &mut [u8],
@@ -297,20 +392,21 @@ pub fn run_written(
     table: &mut [Record],
     commands: usize,
     budget: u64,
-) -> LentRan {
+) -> Ran {
     let number = refused(memory, image, drive, table, commands);
-    let mut ran = LentRan { number, ..LentRan::default() };
+    let mut ran = Ran { number, finished: number == 0, ..Ran::default() };
     if number != 0 {
         return ran;
     }
     for record in &mut table[..commands] {
-        let left = u64::from(steps(record) - record.taken).min(budget - ran.steps);
-        if left > 0 {
-            take(memory, image, drive, record, left as u32);
-            ran.steps += left;
+        let left = u64::from(steps(record) - record.taken);
+        let taken = left.min(budget - ran.steps);
+        if taken > 0 {
+            take(memory, image, drive, record, taken as u32);
         }
+        ran.steps += taken;
+        ran.finished &= taken == left;
     }
-    ran.finished = table[..commands].iter().all(finished);
     ran
 }
 
@@ -334,7 +430,7 @@ pub fn look_part(image: &[u8], drive: Drive, sector: u32) -> Part {
 pub fn view_number(memory: &[u8], at: u32) -> u8 {
     if at % 2 == 1 {
         2
-    } else if part(memory.len(), at, IOPB).is_none() {
+    } else if iopb(memory, at).is_none() {
         3
     } else {
         0
@@ -342,8 +438,8 @@ pub fn view_number(memory: &[u8], at: u32) -> u8 {
 }
 
 pub fn view(memory: &[u8], at: u32) -> Fields {
-    if view_number(memory, at) != 0 {
-        return Fields::default();
+    match iopb(memory, at) {
+        Some(bytes) if at % 2 == 0 => fields(bytes),
+        _ => Fields::default(),
     }
-    fields(&memory[at as usize..at as usize + IOPB])
 }

@@ -3,7 +3,7 @@
 //! call on the board is the archive's. A `deck` is no call on the board: `decks` has it played.
 
 use crate::archive;
-use crate::declared::{LentRan, Record};
+use crate::declared::{Ran, Record};
 use crate::field;
 use crate::translate::{drive_of, record_of, second_fields_of, second_record_of};
 use second::run::{PicksReply, WrittenReply};
@@ -58,10 +58,10 @@ impl Player {
             Line::LentPick(place) => self.pick("lentpick", self.state.lent, *place),
             Line::Picks(picks) => self.picks(records, picks),
             Line::Written(budget) => self.written(records, *budget),
+            Line::Steps => self.steps(records),
             Line::Look(sector) => self.look(*sector as u32),
             Line::Fields(at) => self.fields(*at as u32),
             Line::View(at) => self.view(*at as u32),
-            Line::Steps => self.steps()?,
             Line::Deck(_) => return Err("a deck is for the bench, and not for the archive".into()),
             other => return self.state.play(other),
         })
@@ -107,7 +107,7 @@ impl Player {
         let ran = self.over_table(records, |memory, image, drive, table, commands| {
             archive::run_picks(memory, image, drive, table, commands, picks)
         });
-        let LentRan { steps, refused, number, finished } = ran;
+        let Ran { steps, refused, number, finished } = ran;
         Answer::Picks(PicksReply { number, steps, refused, finished, numbers: Vec::new() })
     }
 
@@ -115,19 +115,16 @@ impl Player {
         let ran = self.over_table(records, |memory, image, drive, table, commands| {
             archive::run_written(memory, image, drive, table, commands, budget)
         });
-        let LentRan { steps, number, finished, .. } = ran;
+        let Ran { steps, number, finished, .. } = ran;
         Answer::Written(WrittenReply { number, steps, finished })
     }
 
-    /// The archive has no call that sums steps, but a run as written from a chain's start, with no
-    /// end to its budget, reports them. Where it is refused, nothing is asked of the archive.
-    fn steps(&self) -> Result<Answer, String> {
-        let mut from_start = Player { state: self.state.clone() };
-        from_start.state.table.iter_mut().for_each(|record| record.taken = 0);
-        match from_start.written(BY_VALUE, u64::MAX) {
-            Answer::Written(WrittenReply { number: 0, steps, .. }) => Ok(Answer::Steps(steps)),
-            _ => self.state.clone().play(&Line::Steps),
-        }
+    fn steps(&mut self, records: usize) -> Answer {
+        Answer::Steps(
+            self.over_table(records, |_, _, _, table, commands| {
+                archive::chain_steps(table, commands)
+            }),
+        )
     }
 
     fn look(&self, sector: u32) -> Answer {

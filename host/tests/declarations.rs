@@ -4,7 +4,7 @@
 
 mod reading;
 
-use host::declared::{Drive, LentRan, LentWalked, Part, Record};
+use host::declared::{Drive, Iopb, Ran, Walked, Part, Record};
 use reading::{c_header, differences, rattle, rust, Declared};
 use std::mem::{align_of, offset_of, size_of};
 use std::path::{Path, PathBuf};
@@ -34,7 +34,7 @@ fn source() -> Declared {
 
 fn hold(name: &str, declared: &Declared) {
     let source = source();
-    assert!(source.functions.len() > 20 && source.structs.len() == 5, "the source was not read");
+    assert!(source.functions.len() == 8 && source.structs.len() == 6, "the source was not read");
     let found = differences(("the source", &source), (name, declared));
     assert!(found.is_empty(), "{name} is not what the source exports:\n{}", found.join("\n"));
 }
@@ -61,8 +61,9 @@ fn a_changed_declaration_is_found() {
         ("uint64_t budget", "uint32_t budget"),
         ("size_t commands, size_t place", "size_t place, size_t commands"),
         ("const uint8_t *picks", "uint8_t *picks"),
-        ("uint8_t rosadenca_unit(", "uint8_t rosadenca_units("),
-        ("uint32_t rosadenca_data_address(", "uint16_t rosadenca_data_address("),
+        ("rosadenca_iopb rosadenca_view(", "rosadenca_iopb rosadenca_views("),
+        ("uint64_t rosadenca_chain_steps(", "uint32_t rosadenca_chain_steps("),
+        ("uint8_t unit; ", "uint8_t units; "),
     ] {
         assert!(header.contains(old), "the header has no {old:?} to change");
         let changed = c_header::declared(&header.replacen(old, new, 1));
@@ -108,15 +109,39 @@ fn assertions() -> String {
         (byte0, "byte0"),
         (code, "code")
     );
-    layout!(text, LentWalked, "rosadenca_walked", (number, "number"), (commands, "commands"));
+    layout!(text, Walked, "rosadenca_walked", (number, "number"), (commands, "commands"));
     layout!(
         text,
-        LentRan,
+        Ran,
         "rosadenca_ran",
         (steps, "steps"),
         (refused, "refused"),
         (number, "number"),
         (finished, "finished")
+    );
+    layout!(
+        text,
+        Iopb,
+        "rosadenca_iopb",
+        (data_address, "data_address"),
+        (next_address, "next_address"),
+        (count, "count"),
+        (cylinder, "cylinder"),
+        (number, "number"),
+        (errs, "errs"),
+        (done, "done"),
+        (chen, "chen"),
+        (sgm, "sgm"),
+        (command, "command"),
+        (completion, "completion"),
+        (wrpt, "wrpt"),
+        (oncl, "oncl"),
+        (drdy, "drdy"),
+        (internal, "internal"),
+        (subfunction, "subfunction"),
+        (unit, "unit"),
+        (head, "head"),
+        (sector, "sector")
     );
     layout!(text, Part, "rosadenca_part", (at, "at"), (length, "length"));
     text

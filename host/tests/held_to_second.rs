@@ -2,16 +2,18 @@
 //! and code comes up, and a board with a fault is found out.
 
 use host::boards::{Board, ARCHIVE, ORDINARY};
-use host::declared::LentRan;
+use host::declared::Ran;
 use host::differ::counts::Counts;
 use host::differ::make::play_chain;
 
-const CHAINS: u64 = 3_000;
+/// Chains for a board that is to come out right, and for one with a fault.
+const CHAINS: u64 = 12_000;
+const CHAINS_FOR_A_FAULT: u64 = 3_000;
 
 /// Plays chains on a board; the error is the first difference.
-fn played(board: &Board, seed: u64) -> Result<Counts, String> {
+fn played(board: &Board, seed: u64, chains: u64) -> Result<Counts, String> {
     let mut counts = Counts::default();
-    for n in 0..CHAINS {
+    for n in 0..chains {
         play_chain(board, seed, n, &mut counts, false)
             .map_err(|what| format!("seed {seed}, chain {n}, {what}"))?;
     }
@@ -19,7 +21,7 @@ fn played(board: &Board, seed: u64) -> Result<Counts, String> {
 }
 
 fn hold(board: &Board, seed: u64) {
-    let counts = played(board, seed).unwrap_or_else(|what| panic!("{what}"));
+    let counts = played(board, seed, CHAINS).unwrap_or_else(|what| panic!("{what}"));
     assert_eq!(counts.never(), Vec::<String>::new(), "these never came up");
     assert!(counts.strange().is_empty(), "no rule gives these: {:?}", counts.strange());
 }
@@ -35,7 +37,8 @@ fn the_ordinary_board_is_held_to_the_second_program() {
 }
 
 fn must_be_found(what: &str, faulty: Board) {
-    assert!(played(&faulty, 9).is_err(), "a board that {what} was not found out");
+    let found = played(&faulty, 9, CHAINS_FOR_A_FAULT).is_err();
+    assert!(found, "a board that {what} was not found out");
 }
 
 #[test]
@@ -45,7 +48,20 @@ fn a_faulty_reply_is_found() {
         Board {
             run_picks: |memory, image, drive, table, commands, picks| {
                 let ran = (ORDINARY.run_picks)(memory, image, drive, table, commands, picks);
-                LentRan { steps: ran.steps + ran.refused, ..ran }
+                Ran { steps: ran.steps + ran.refused, ..ran }
+            },
+            ..ORDINARY
+        },
+    );
+    must_be_found(
+        "takes picks of one place that follow each other for one",
+        Board {
+            run_picks: |memory, image, drive, table, commands, picks| {
+                let mut once = picks.to_vec();
+                once.dedup();
+                let ran = (ORDINARY.run_picks)(memory, image, drive, table, commands, &once);
+                let more = (picks.len() - once.len()) as u64;
+                Ran { refused: ran.refused + if ran.number == 0 { more } else { 0 }, ..ran }
             },
             ..ORDINARY
         },

@@ -1,4 +1,4 @@
--- What was read lies within the run that it was read into. Assumes nothing.
+-- What was read lies within the run that it was read into.
 use Prim.Native.Nat.{ℕ, _≤_}
 use mathlib.Core.List.{List}
 use lib.ListN.{length}

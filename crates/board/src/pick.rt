@@ -88,9 +88,9 @@ pub(crate) fn bad_record(memory: &[u8], d: Drive, r: Record) -> bool
 
 // A pick beneath both faces: `length` is how many records the caller's table has, of which these are the first. Both loops that read the
 // table stand here, since a table that is passed on is copied.
-pub fn pick_record(
-    memory: &mut [u8],
-    image: &mut [u8],
+pub fn pick_record<'a>(
+    memory: &'a mut [u8],
+    image: &'a mut [u8],
     d: Drive,
     table: [Record; 32],
     length: usize,

@@ -83,7 +83,11 @@ fn refused(number: u8) -> Ran
 fn in_table(commands: usize) -> usize
     ensures { λ n. ⌜ n ≡ min commands 32 ⌝ }
 {
-    if commands < RECORDS { commands } else { RECORDS }
+    if commands < RECORDS {
+        commands
+    } else {
+        RECORDS
+    }
 }
 
 // The steps of a chain, from its start: the sum of the steps of its commands (Run 6).
@@ -133,14 +137,14 @@ fn picks_alike(picks: &[u8], from: usize, left: u32) -> u32
 // command only ever comes nearer to its end: an earlier command that once did not block a place never blocks it again. So the search of
 // a pick goes on where the last one at its place stopped: `searched` holds how many earlier commands are known not to block it. Picks in
 // a row at a place that may go take their steps at once.
-pub fn picks_taken(
-    memory: &mut [u8],
-    image: &mut [u8],
+pub fn picks_taken<'a>(
+    memory: &'a mut [u8],
+    image: &'a mut [u8],
     d: Drive,
     table: [Record; 32],
     length: usize,
     commands: usize,
-    picks: &[u8],
+    picks: &'a [u8],
 ) -> RanTaken
     ensures { λ r. ⌜ RunTakes d commands (run.byPicks d commands (now (picks .entry))) length (stateOf (now (memory .entry)) (now (image .entry)) table) r (lent (now (memory .exit)) (now (image .exit))) ⌝ }
 {
@@ -211,9 +215,9 @@ pub fn picks_taken(
 }
 
 // A run as written beneath both faces: each command in turn as far as the budget goes, always the earliest unfinished one (Run 5).
-pub fn written_taken(
-    memory: &mut [u8],
-    image: &mut [u8],
+pub fn written_taken<'a>(
+    memory: &'a mut [u8],
+    image: &'a mut [u8],
     d: Drive,
     table: [Record; 32],
     length: usize,

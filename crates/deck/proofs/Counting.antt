@@ -1,5 +1,5 @@
 -- The numbers below n, as a loop that counts goes through them: how many there are, which stands at k, a fold over one more, and
--- a test put to each. Assumes nothing.
+-- a test put to each.
 use mathlib.Core.Path.{_≡_, refl, sym, ap, _∙_}
 use Prim.Native.Nat.{ℕ, zero, suc, _+_, _≤_, _<_}
 use native.Mathlib.Nat.{not-suc-le-zero, eq-or-lt-of-le, le-of-suc-le-suc}

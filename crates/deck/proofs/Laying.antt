@@ -1,4 +1,4 @@
--- What the loops of `laid` come to: the tests of a deck, the records laid in memory, and the sectors of the image. Assumes nothing.
+-- What the loops of `laid` come to: the tests of a deck, the records laid in memory, and the sectors of the image.
 use mathlib.Core.Path.{_≡_, refl, sym, ap, ap₂, _∙_}
 use Prim.Native.Nat.{ℕ, zero, suc, _+_, _-_, _*_, _%_, _≤_, _<_}
 use native.Mathlib.Nat.{add-sub-cancel-left}

@@ -1,5 +1,5 @@
 -- A number in decimal: its last digit after the others, as the code writes it, and how many digits it has; and the lines of commands,
--- one more at the end. Assumes nothing.
+-- one more at the end.
 use mathlib.Core.Path.{_≡_, refl, sym, ap, ap₂, _∙_, subst}
 use Prim.Native.Nat.{ℕ, zero, suc, _+_, _*_, _/_, _%_, _^_, _≤_, _<_, min, _-_}
 use native.Mathlib.Nat.{pow-suc, div-lt-iff-lt-mul, add-zero}

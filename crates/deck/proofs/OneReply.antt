@@ -1,5 +1,5 @@
 -- One reply alone meets each contract: what it says fixes the outcome, the codes of its commands and the zeros past them; the count, the
--- bytes put and the rest. Assumes nothing.
+-- bytes put and the rest.
 use mathlib.Core.Path.{_≡_, refl, sym, ap, ap₂, _∙_}
 use Prim.Native.Nat.{ℕ, _-_, _≤_}
 use native.Mathlib.Omega.{arith}
@@ -12,7 +12,7 @@ use Rattle.deck.specs.declared.Outcome.the-variants.{NoDeck, NoChain, Ra
 use Rattle.deck.specs.declared.Report.{Report}
 use Rattle.deck.specs.Meant.{meant, commandsIn, Reports}
 use Rattle.deck.specs.Put.{Put, PrintGives}
-use Rattle.deck.specs.OneReply.{OneReply}
+use Rattle.deck.specs.OneReply.{EachHasOneReply}
 
 -- two runs that agree up to a place and from it on
 same-halves : (n k : ℕ) (l₁ l₂ : List ℕ) → take n l₁ ≡ take k l₂ → drop n l₁ ≡ drop k l₂ → l₁ ≡ l₂
@@ -59,6 +59,6 @@ one-report o x y full₁ full₂ p q =
     let both = same (x .codes) (y .codes) full₁ full₂ (x .outcome) (y .outcome) (p .few) (q .few) (p .rest) (q .rest) (p .means ∙ sym (q .means)) in
     λ i. record { outcome = both .0 i; codes = both .1 i }
 
-pub one-reply : OneReply
+pub each-has-one-reply : EachHasOneReply
 unfolding PrintGives
-one-reply = record { report = one-report; printing = λ b l r s l₁ l₂ p q. put-once l 0 _ r s l₁ l₂ p q }
+each-has-one-reply = record { report = one-report; printing = λ b l r s l₁ l₂ p q. put-once l 0 _ r s l₁ l₂ p q }

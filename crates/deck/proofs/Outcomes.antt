@@ -1,4 +1,4 @@
--- What a report means and the lines of its outcome, case by case; and the outcome of a deck by that of its chain. Assumes nothing.
+-- What a report means and the lines of its outcome, case by case; and the outcome of a deck by that of its chain.
 use mathlib.Core.Path.{_≡_, refl, sym, ap, _∙_, subst, subst₃}
 use Prim.Native.Nat.{ℕ, _-_, _≤_, _<_}
 use native.Mathlib.Omega.{arith}
@@ -9,6 +9,7 @@ use lib.Dec.{lit≤}
 use borrow.Author.Tests.{le-leb, lt-leb}
 use Rattle.meaning.specs.declared.Drive.{Drive}
 use Rattle.meaning.specs.declared.Record.{Record}
+use Rattle.meaning.specs.Store.{lent}
 use Rattle.meaning.specs.Deck.{isDeck, benchDrive, benchMemory, benchImage}
 use Rattle.meaning.specs.Bench.{noDeck, noChain, ran, outcomeOf}
 use Rattle.meaning.specs.Bench as bench
@@ -66,15 +67,15 @@ module _ (b : List ℕ) where
   unfolding outcomeOf
   no-deck e = pass (isDeck b) _ _ e
 
-  pub deck-outcome : isDeck b ≡ true → outcomeOf b ≡ chainOutcome (benchMemory b) benchImage (benchDrive b)
+  pub deck-outcome : isDeck b ≡ true → outcomeOf b ≡ chainOutcome (benchDrive b) (lent (benchMemory b) benchImage)
   unfolding outcomeOf
   deck-outcome e = stop (isDeck b) _ _ e
 
   pub reports-deck : (m i : List ℕ) (d : Drive) (r : Report) → isDeck b ≡ true → m ≡ benchMemory b → i ≡ benchImage → d ≡ benchDrive b
-      → Reports (chainOutcome m i d) r → Reports (outcomeOf b) r
+      → Reports (chainOutcome d (lent m i)) r → Reports (outcomeOf b) r
   reports-deck m i d r e em ei ed h =
       subst (λ (o : bench.Outcome). Reports o r) (sym (deck-outcome e))
-      (subst₃ (λ (x y : List ℕ) (z : Drive). Reports (chainOutcome x y z) r) em ei ed h)
+      (subst₃ (λ (x y : List ℕ) (z : Drive). Reports (chainOutcome z (lent x y)) r) em ei ed h)
 
 -- ---- printing it
 

@@ -1,4 +1,4 @@
--- Bytes put into a run: none, one, a word copied, and one piece after another. Assumes nothing.
+-- Bytes put into a run: none, one, a word copied, and one piece after another.
 use mathlib.Core.Path.{_≡_, refl, sym, ap, ap₂, _∙_, subst}
 use Prim.Native.Nat.{ℕ, _+_, _-_, _≤_, _<_}
 use native.Mathlib.Nat.{add-sub-cancel-left}

@@ -1,18 +1,20 @@
--- What a report of a deck means, case by case. Assumes nothing.
+-- What a report of a deck means, case by case.
 use mathlib.Core.Path.{_≡_}
 use Prim.Native.Nat.{ℕ, _-_, _≤_}
 use mathlib.Core.List.{List, map}
 use lib.ListN.{take, drop, replicate}
 use Rattle.meaning.specs.declared.Drive.{Drive}
 use Rattle.meaning.specs.declared.Record.{Record}
-use Rattle.meaning.specs.Walk.{mostCommands, chainAt}
-use Rattle.meaning.specs.Bench.{noDeck, noChain, ran, runChain}
+use Rattle.meaning.specs.Store.{Store}
+use Rattle.meaning.specs.State.{mostCommands}
+use Rattle.meaning.specs.Walk.{chainAt}
+use Rattle.meaning.specs.Bench.{noDeck, noChain, ran, runChain, noRecords}
 use Rattle.meaning.specs.Bench as bench
 use Rattle.deck.specs.declared.Outcome.{Outcome}
 use Rattle.deck.specs.declared.Outcome.the-variants.{NoDeck, NoChain, Ran}
 use Rattle.deck.specs.declared.Report.{Report}
 
--- the outcome of document 01 for each case, with its codes
+-- the outcome for each case, with its codes
 unfoldable pub meant : Outcome → List ℕ → bench.Outcome
 meant NoDeck codes = noDeck
 meant (NoChain n) codes = noChain n
@@ -22,9 +24,9 @@ meant (Ran commands steps) codes = ran (take commands codes) steps
 abbrev pub codesOf : List Record → List ℕ
 codesOf rs = map (λ (r : Record). r .code) rs
 
--- what comes of the chain at 0 in memory m, with the image i
-abbrev pub chainOutcome : List ℕ → List ℕ → Drive → bench.Outcome
-chainOutcome m i d = runChain d (record { memory = m; image = i }) (chainAt m i d 0)
+-- what comes of the chain at 0 in memory
+abbrev pub chainOutcome : Drive → Store → bench.Outcome
+chainOutcome d s = runChain d s (chainAt d 0 (record { table = noRecords; store = s }))
 
 -- how many codes a case has
 abbrev pub commandsIn : Outcome → ℕ

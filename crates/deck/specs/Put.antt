@@ -1,4 +1,4 @@
--- Bytes put into a run, as the lines of a deck are written one piece after the other. Assumes nothing.
+-- Bytes put into a run, as the lines of a deck are written one piece after the other.
 use mathlib.Core.Path.{_≡_}
 use Prim.Native.Nat.{ℕ, _+_}
 use mathlib.Core.Bool.{cond}

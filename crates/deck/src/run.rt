@@ -8,11 +8,14 @@ use meaning::Record;
 ghost use mathlib.Core.Path.{_≡_};
 ghost use Prim.Native.Nat.{_≤_, _-_};
 ghost use lib.ListN.{take, drop, replicate};
-ghost use Rattle.meaning.specs.Bench.{outcomeOf};
+ghost use Rattle.meaning.specs.Store.{lent};
+ghost use Rattle.meaning.specs.Bench.{noRecords, outcomeOf};
 ghost use Rattle.deck.specs.Meant.{Reports, codesOf, chainOutcome};
 
 // A table that holds no command yet.
-fn empty_table() -> [Record; 32] {
+fn empty_table() -> [Record; 32]
+    ensures { λ t. ⌜ t ≡ noRecords ⌝ }
+{
     [Record {
         iopb: 0,
         address: 0,
@@ -42,10 +45,11 @@ fn codes_of(table: [Record; 32], commands: usize) -> [u8; 32]
 
 // The chain at 0 in memory: walked, and run as written to its end.
 fn run_chain(memory: &mut [u8], image: &mut [u8], d: Drive) -> Report
-    ensures { λ r. ⌜ Reports (chainOutcome (now (memory .entry)) (now (image .entry)) d) r ⌝ }
+    ensures { λ r. ⌜ Reports (chainOutcome d (lent (now (memory .entry)) (now (image .entry)))) r ⌝ }
 {
     let w = walk::walk(memory, image, d, 0, empty_table());
-    let number = w.number;
+    let walked = w.walked;
+    let number = walked.number;
     if number != 0 {
         return Report {
             outcome: Outcome::NoChain(number),
@@ -53,9 +57,10 @@ fn run_chain(memory: &mut [u8], image: &mut [u8], d: Drive) -> Report
         };
     }
     let table = w.table;
-    let commands = w.commands;
+    let commands = walked.commands;
     let budget = board::run::chain_steps(table, commands);
-    let ran = board::run::run_written(memory, image, d, table, commands, budget);
+    let run = board::run::run_written(memory, image, d, table, commands, budget);
+    let ran = run.ran;
     Report {
         outcome: Outcome::Ran {
             commands,

@@ -9,7 +9,7 @@ ghost use mathlib.Core.List.{[]};
 ghost use lib.Dec.{ltb};
 ghost use Rattle.meaning.specs.Store.{lent};
 ghost use Rattle.meaning.specs.Sectors.{sectorCount, largestSector, sectorNumber, imageRight};
-ghost use Rattle.meaning.specs.Look.{lookNumber, lookPart};
+ghost use Rattle.meaning.specs.Look.{lookNumber, lookedPart, IsPart};
 
 // The bytes of a sector, and the most that an image may have.
 pub const SECTOR_BYTES: u64 = 512;
@@ -82,9 +82,10 @@ pub fn look_number(image: &[u8], d: Drive, sector: u32) -> u8
     0
 }
 
-// The sector's 512 bytes of the image itself, or an empty part exactly where its number is not 0.
+// The sector's 512 bytes of the image itself, or an empty part exactly where its number is not 0: which bytes of the lent run these are
+// is part of what is promised.
 pub fn look(image: &[u8], d: Drive, sector: u32) -> &[u8]
-    ensures { λ r. ⌜ now r ≡ lookPart d sector (lent [] (now (image .entry))) ⌝ }
+    ensures { λ r. ⌜ IsPart (lookedPart d sector (lent [] (now (image .entry)))) (image .entry) r ⌝ }
 {
     if look_number(image, d, sector) != 0 {
         return &image[..0];

@@ -1,15 +1,10 @@
--- First what the walks by hand stand on: a slice lent again, and a loop that lays records. Then what the parts give together is what 01
--- says, and the one walk of the calls that take steps; and the statements, each in a file of its own.
-pub mod Lending
-pub mod Arrays
-pub mod Moves
-pub mod Fronts
-pub mod ByValue
+-- First what the walks by hand stand on: the types of a record and of a number of steps, and tables that are laid over others record by
+-- record. Then what the parts of a call give together, and the walks that calls share. Last the theorems about the contracts.
+pub mod Records
+pub mod Laying
 pub mod Walks
-pub mod Takes
-pub mod Layings
-pub mod Tabled
+pub mod Claims
+pub mod Lent
 pub mod Parameters
-pub mod Looked
+pub mod Running
 pub mod Agree
-pub mod OneReply

@@ -1,122 +1,90 @@
--- What the parts of the lent walk give together is what 01 says of it. The by-value walk is done over a table of no records, and the
--- records that it filled are laid over the lent ones: the number and the count do not depend on the table. Assumes nothing.
-use mathlib.Core.Path.{_≡_, refl, sym, _∙_, ap, subst₂}
-use Prim.Native.Nat.{ℕ, zero, suc, _+_, _≤_}
+-- The walk over a lent table. It is done over a table of no records, and the records of the commands are laid over the lent ones: what a
+-- chain comes to does not depend on the table, once the table is long enough.
+use mathlib.Core.Path.{_≡_, refl, sym, _∙_, ap, subst}
+use Prim.Native.Nat.{ℕ, _≤_, _<_}
 use native.Mathlib.Omega.{arith}
-use mathlib.Core.Bool.{Bool, true, false, not, cond}
-use mathlib.Core.List.{List, [], _∷_, _++_, append-assoc}
-use lib.ListN.{length, drop, length-append, length-drop, take-append-drop}
+use mathlib.Core.Bool.{Bool, true, false, cond}
+use mathlib.Core.List.{List, [], _++_}
+use lib.ListN.{length, drop}
 use lib.Dec.{ltb}
-use lib.Seq.{take-append-seam, drop-append-le, length-take-le}
-use borrow.Author.Tests.{ltb-false}
+use lib.Seq.{take-append-seam}
+use borrow.Author.Tests.{lt-ltb, le-ltb, ltb-true, ltb-false}
 use Rattle.meaning.specs.declared.Drive.{Drive}
 use Rattle.meaning.specs.declared.Record.{Record}
-use Rattle.meaning.specs.declared.Walked.{Walked}
-use Rattle.meaning.specs.Each.{someOf}
-use Rattle.meaning.specs.Fields.{allIn}
-use Rattle.meaning.specs.Code.{copiedAt, odd}
-use Rattle.meaning.specs.Sizes.{sizesWrong}
-use Rattle.meaning.specs.Walk.{Chain, refused, accepted, mostCommands, recordOf, goesOn, shares, follow, chainAt, reply, walkOf}
-use Rattle.meaning.proofs.Rows.{pass, stop}
-use Rattle.firmware.specs.declared.laid.Laid.{Laid}
-use Rattle.firmware.specs.declared.table.LentWalked.{LentWalked}
-use Rattle.firmware.specs.Laid.{laid, Within, noRecords, laidWalk, ofWalk, replyOf}
-use Rattle.firmware.specs.Lent.{lentOut, putBack, lentWalk, WalkGives}
-use Rattle.firmware.proofs.Fronts.{laid-front}
+use Rattle.meaning.specs.declared.WalkedTable.{WalkedTable}
+use Rattle.meaning.specs.State.{mostCommands, stateOf}
+use Rattle.meaning.specs.Sizes.{storeWrong, sizesWrong}
+use Rattle.meaning.specs.Code.{odd}
+use Rattle.meaning.specs.Walk.{Chain, refused, accepted, follow, chainAt, answered, filled, walkReply, walkLeaves, WalkGives}
+use Rattle.meaning.specs.Bench.{noRecords}
+use Rattle.meaning.proofs.Rows.{or-later, pass, stop}
+use Rattle.meaning.proofs.Numbers.{full-table}
+use Rattle.meaning.proofs.Walks.{chain-most}
+use Rattle.firmware.specs.Laid.{over, walkedFor}
 
--- ---- a chain has at most 32 commands
+-- ---- `walk_for` answers so
 
-abbrev AtMost : ℕ → Chain → Type 0
-AtMost n (refused k) = Unit {0}
-AtMost n (accepted rs) = length rs ≤ n
+module _ (d : Drive) (start : ℕ) (m i : List ℕ) (n : ℕ) (t : List Record) (blank : t ≡ noRecords) where
+  pub too-short : n < mostCommands → _≡_ {A = WalkedTable} (record { walked = answered (refused 1); table = t }) (walkedFor d start n m i)
+  unfolding walkedFor
+  too-short h = (λ j. record { walked = answered (refused 1); table = blank j }) ∙ sym (stop _ _ _ (lt-ltb n mostCommands h))
 
-either : (P : Chain → Type 0) (b : Bool) (x y : Chain) → P x → P y → P (cond b x y)
-either P true x y p q = p
-either P false x y p q = q
+  pub long-enough : mostCommands ≤ n → (w : WalkedTable) → WalkGives d start (stateOf m i t) (w .walked) (w .table) → w ≡ walkedFor d start n m i
+  unfolding walkedFor WalkGives
+  long-enough h w gives =
+      (λ j. record { walked = gives .0 j; table = gives .1 j })
+      ∙ (λ j. record { walked = walkReply d start (stateOf m i (blank j)); table = walkLeaves d start (stateOf m i (blank j)) })
+      ∙ sym (pass _ _ _ (le-ltb n mostCommands h))
 
-more-allowed : (n k : ℕ) (c : Chain) → n ≤ k → AtMost n c → AtMost k c
-more-allowed n k (refused j) h a = tt
-more-allowed n k (accepted rs) h a = omega (arith, h, a)
+-- ---- what is laid over the lent table is the whole of the walk
 
-few-follow : (left : ℕ) (m : List ℕ) (d : Drive) (earlier : List Record) (a : ℕ) → AtMost (length earlier + left) (follow left m d earlier a)
-unfolding follow
-few-follow zero m d earlier a = tt
-few-follow (suc left) m d earlier a =
-    either P (not (allIn m a)) (refused 3) _ tt
-    (either P (someOf (λ r. shares (r .iopb) a) earlier) (refused 4) _ tt
-    (either P (goesOn (copiedAt m a)) _ (accepted commands)
-    (more-allowed (length commands + left) (length earlier + suc left) (follow left m d commands (copiedAt m a .next)) (omega (arith, one-more)) (few-follow left m d commands (copiedAt m a .next)))
-    (omega (arith, one-more))))
-  where
-    P : Chain → Type 0
-    P = AtMost (length earlier + suc left)
-
-    commands : List Record
-    commands = earlier ++ recordOf (copiedAt m a) a d (length m) ∷ []
-
-    one-more : length commands ≡ length earlier + 1
-    one-more = length-append earlier (recordOf (copiedAt m a) a d (length m) ∷ [])
-
-few-chain : (m i : List ℕ) (d : Drive) (start : ℕ) → AtMost mostCommands (chainAt m i d start)
+-- of any two tables that are long enough the same chain is read
+same-chain : (d : Drive) (start : ℕ) (m i : List ℕ) (t u : List Record) → mostCommands ≤ length t → mostCommands ≤ length u → chainAt d start (stateOf m i t) ≡ chainAt d start (stateOf m i u)
 unfolding chainAt
-few-chain m i d start =
-    either (AtMost mostCommands) (sizesWrong m i d) (refused 1) _ tt (either (AtMost mostCommands) (odd start) (refused 2) (follow mostCommands m d [] start) tt (few-follow mostCommands m d [] start))
+same-chain d start m i t u h g =
+    ap (λ (b : Bool). cond b (refused 1) (cond (odd start) (refused 2) (follow mostCommands m d [] start))) (full-table d (stateOf m i t) h ∙ sym (full-table d (stateOf m i u) g))
 
--- ---- the records of a chain, laid over a lent table
+-- a table that is too short gets 1
+short-chain : (d : Drive) (start : ℕ) (m i : List ℕ) (t : List Record) → length t < mostCommands → chainAt d start (stateOf m i t) ≡ refused 1
+unfolding chainAt sizesWrong
+short-chain d start m i t h = stop _ _ _ (or-later (storeWrong d (stateOf m i t .store)) (ltb (length t) mostCommands) (lt-ltb (length t) mostCommands h))
 
--- the whole of a table is its first 32 and the rest
-module _ (t : List Record) (long : mostCommands ≤ length t) where
-  pub long-out : length (lentOut t) ≡ mostCommands
-  long-out = length-take-le mostCommands t long
+-- the records of a chain fit, and laid over a table they fill it
+module _ (t : List Record) (c : Chain) (most : (rs : List Record) → c ≡ accepted rs → length rs ≤ mostCommands) where
+  few : (c′ : Chain) → c ≡ c′ → answered c′ .commands ≤ mostCommands
+  few (refused k) e = omega arith
+  few (accepted rs) e = most rs e
 
-  fills : (c : Chain) → AtMost mostCommands c → laid 0 (reply c noRecords .commands) (reply c noRecords .table) t ≡ putBack t (reply c (lentOut t) .table)
-  unfolding reply
-  fills (refused k) few = sym (take-append-drop mostCommands t)
-  fills (accepted rs) few =
-      laid-front (length rs) (rs ++ drop (length rs) noRecords) t (omega (arith, length-append rs (drop (length rs) noRecords))) (omega (arith, few, long))
-      ∙ ap (_++ drop (length rs) t) (take-append-seam rs (drop (length rs) noRecords))
-      ∙ ap (rs ++_) (ap (drop (length rs)) (sym (take-append-drop mostCommands t)) ∙ drop-append-le (length rs) (lentOut t) (drop mostCommands t) (omega (arith, few, long-out)))
-      ∙ sym (append-assoc rs (drop (length rs) (lentOut t)) (drop mostCommands t))
+  fills : (c′ : Chain) → over (answered c′ .commands) (filled c′ noRecords) t ≡ filled c′ t
+  fills (refused k) = refl
+  fills (accepted rs) = ap (_++ drop (length rs) t) (take-append-seam rs (drop (length rs) noRecords))
 
-  counts : (c : Chain) → AtMost mostCommands c → (0 + reply c noRecords .commands ≤ length t) × (0 + reply c noRecords .commands ≤ mostCommands)
-  unfolding reply
-  counts (refused k) few = (omega arith, omega arith)
-  counts (accepted rs) few = (omega (arith, few, long), omega (arith, few))
+module _ (d : Drive) (start : ℕ) (m i : List ℕ) (t : List Record) where
+  abbrev Whole : WalkedTable → Type 0
+  Whole w =
+      ((w .walked .commands ≤ length t) × (w .walked .commands ≤ mostCommands))
+      × WalkGives d start (stateOf m i t) (w .walked) (over (w .walked .commands) (w .table) t)
 
-  answers : (c : Chain) → _≡_ {A = LentWalked} (replyOf (ofWalk (reply c noRecords))) (record { number = reply c (lentOut t) .number; commands = reply c (lentOut t) .commands })
-  unfolding reply
-  answers (refused k) = refl
-  answers (accepted rs) = refl
+  short : length t < mostCommands → Whole (walkedFor d start (length t) m i)
+  unfolding walkedFor WalkGives walkReply walkLeaves
+  short h =
+      let e = short-chain d start m i t h in
+      subst Whole (sym (stop _ _ _ (lt-ltb (length t) mostCommands h)))
+      ((omega arith, omega arith), (ap answered (sym e), ap (λ (c : Chain). filled c t) (sym e)))
 
-  -- the table by value stays 32 records long
-  filled-long : (c : Chain) → AtMost mostCommands c → length (reply c (lentOut t) .table) ≡ mostCommands
-  unfolding reply
-  filled-long (refused k) few = long-out
-  filled-long (accepted rs) few = omega (arith, few, long-out, length-append rs (drop (length rs) (lentOut t)), length-drop (length rs) (lentOut t))
+  long : mostCommands ≤ length t → Whole (walkedFor d start (length t) m i)
+  unfolding walkedFor WalkGives walkReply walkLeaves
+  long h =
+      let c = chainAt d start (stateOf m i noRecords) in
+      let same = same-chain d start m i noRecords t (omega arith) h in
+      let most = chain-most d start (stateOf m i noRecords) in
+      let f = few t c most c refl in
+      subst Whole (sym (pass _ _ _ (le-ltb (length t) mostCommands h)))
+      ((omega arith, f), (ap answered same, fills t c most c ∙ ap (λ (c′ : Chain). filled c′ t) same))
 
-  pub walked-long : (m i : List ℕ) (d : Drive) (start : ℕ) → length (walkOf m i d start (lentOut t) .table) ≡ mostCommands
-  unfolding walkOf
-  walked-long m i d start = filled-long (chainAt m i d start) (few-chain m i d start)
-
-module _ (m i : List ℕ) (d : Drive) (start : ℕ) (t : List Record) where
-  abbrev l : Laid
-  l = laidWalk m i d start (length t)
-
-  -- what is laid stands within the lent table, and with the answer it is the whole of the walk
-  abbrev Whole : Laid → Walked → Type 0
-  Whole u w = Within u (length t) × (_≡_ {A = LentWalked} (replyOf u) (record { number = w .number; commands = w .commands })) × (laid (u .from) (u .count) (u .table) t ≡ w .table)
-
-  by-length : (b : Bool) → ltb (length t) mostCommands ≡ b → Whole l (lentWalk m i d start t)
-  unfolding laidWalk lentWalk
-  by-length true e = subst₂ Whole (sym (stop _ _ _ e)) (sym (stop _ _ _ e)) ((omega arith, omega arith), refl, refl)
-  by-length false e =
-      let long = ltb-false _ _ e in
-      let few = few-chain m i d start in
-      subst₂ Whole (sym (pass _ _ _ e)) (sym (pass _ _ _ e)) (counts t long (chainAt m i d start) few, answers t long (chainAt m i d start), fills t long (chainAt m i d start) few)
-
-  pub walk-within : Within l (length t)
-  walk-within = by-length (ltb (length t) mostCommands) refl .0
-
-  pub walk-gives : WalkGives m i d start t (replyOf l) (laid (l .from) (l .count) (l .table) t)
-  unfolding WalkGives
-  walk-gives = let w = by-length (ltb (length t) mostCommands) refl in (w .1, w .2)
+  pub walk-whole : (w : WalkedTable) → w ≡ walkedFor d start (length t) m i → Whole w
+  walk-whole w e = subst Whole (sym e) (go (ltb (length t) mostCommands) refl)
+    where
+      go : (b : Bool) → ltb (length t) mostCommands ≡ b → Whole (walkedFor d start (length t) m i)
+      go true short-table = short (ltb-true (length t) mostCommands short-table)
+      go false long-table = long (ltb-false (length t) mostCommands long-table)

@@ -1,5 +1,3 @@
-pub mod Lent
+-- What the exported functions say in their contracts beside the rules, and what is proved of those contracts.
 pub mod Laid
-pub mod Looked
 pub mod Agree
-pub mod OneReply

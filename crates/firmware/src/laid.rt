@@ -1,46 +1,25 @@
-// How records go between a table that is lent as a run of records and one by value: records that are wanted are copied out, a form by
-// value is called, and the records that it changed are copied back to their places.
+// How records go between a table that is lent as a run of records and one by value: a call copies the records out once, and lays back
+// only what it changed. The functions over the lent run are proved by hand.
+use board::command;
+use board::pick::PickedRecord;
+use board::run::RanTaken;
+use chain::walk::MOST_COMMANDS;
+use meaning::Ran;
 use meaning::Record;
 ghost use mathlib.Core.Path.{_≡_};
-ghost use Prim.Native.Nat.{_≤_};
+ghost use mathlib.Core.Bool.{cond};
+ghost use Prim.Native.Nat.{_≤_, _<_, min};
 ghost use lib.ListN.{length};
-ghost use Rattle.firmware.specs.Laid.{laid, Within, noRecords, fitted, nothingLaid};
+ghost use lib.Dec.{eqb};
+ghost use Rattle.meaning.specs.State.{mostCommands};
+ghost use Rattle.meaning.specs.Bench.{noRecords};
+ghost use Rattle.firmware.specs.Laid.{over, copiedOut, withRecord, withSteps};
 
-// What a form by value answers, and records of its table that belong at the same places of the lent one: count of them, from one
-// place on.
-pub struct Laid {
-    pub number: u8,
-    pub from: usize,
-    pub count: usize,
-    pub steps: u64,
-    pub refused: u64,
-    pub finished: bool,
-    pub table: [Record; 32],
-}
-
-// A number, and nothing to lay.
-pub(crate) fn nothing(number: u8, table: [Record; 32]) -> Laid
-    ensures { λ l. ⌜ l ≡ nothingLaid number table ⌝ }
-{
-    Laid {
-        number,
-        from: 0,
-        count: 0,
-        steps: 0,
-        refused: 0,
-        finished: false,
-        table,
-    }
-}
-
-// How many records a lent table of this length lends to a form by value: 32, or none if it is too short.
+// How many records of a table of this length go into one by value.
 pub(crate) fn fit(length: usize) -> usize
-    ensures { λ n. ⌜ n ≡ fitted length ⌝ }
+    ensures { λ n. ⌜ n ≡ min length mostCommands ⌝ }
 {
-    if length < 32 {
-        return 0;
-    }
-    32
+    if length < MOST_COMMANDS { length } else { MOST_COMMANDS }
 }
 
 // A table of no records.
@@ -59,12 +38,19 @@ pub(crate) fn blank() -> [Record; 32]
     [none; 32]
 }
 
-// The first n records of the lent table, by value; the lent table is as it was.
-pub(crate) fn load(table: &mut [Record], n: usize) -> [Record; 32]
-    requires { ⌜ (n ≤ length (now table)) × (n ≤ 32) ⌝ }
-    ensures { λ t. ⌜ (t ≡ laid 0 n (now (table .entry)) noRecords) × (now (table .exit) ≡ now (table .entry)) ⌝ }
+// How many records of a run are laid back: all 32, or none on a refusal.
+pub(crate) fn changed(number: u8) -> usize
+    ensures { λ n. ⌜ n ≡ cond (eqb number 0) mostCommands 0 ⌝ }
+{
+    if number == 0 { MOST_COMMANDS } else { 0 }
+}
+
+// The first records of the lent table, 32 at most, before records of zeros.
+pub(crate) fn load(table: &[Record]) -> [Record; 32]
+    ensures { λ t. ⌜ t ≡ copiedOut (now (table .entry)) ⌝ }
 {
     let mut t = blank();
+    let n = fit(table.len());
     let mut k = 0;
     while k < n {
         t[k] = table[k];
@@ -73,16 +59,41 @@ pub(crate) fn load(table: &mut [Record], n: usize) -> [Record; 32]
     t
 }
 
-// Records of the table by value, copied into the lent one.
-pub(crate) fn store(table: &mut [Record], l: Laid)
-    requires { ⌜ Within l (length (now table)) ⌝ }
-    ensures { λ _. ⌜ now (table .exit) ≡ laid (l .from) (l .count) (l .table) (now (table .entry)) ⌝ }
+// The first n of these records, laid over those of the lent table.
+pub(crate) fn fill(table: &mut [Record], records: [Record; 32], n: usize)
+    requires { ⌜ (n ≤ length (now table)) × (n ≤ mostCommands) ⌝ }
+    ensures { λ _. ⌜ now (table .exit) ≡ over n records (now (table .entry)) ⌝ }
 {
-    let t = l.table;
-    let mut k = l.from;
-    let end = k + l.count;
-    while k < end {
-        table[k] = t[k];
+    let mut k = 0;
+    while k < n {
+        table[k] = records[k];
         k += 1;
     }
+}
+
+// The record that a pick changed, laid at its place; the pick's number is handed on.
+pub(crate) fn put_record(table: &mut [Record], place: usize, p: PickedRecord) -> u8
+    requires { ⌜ (p .number ≡ 0 → place < length (now table)) ⌝ }
+    ensures { λ n. ⌜ (n ≡ p .number) × (now (table .exit) ≡ withRecord p place (now (table .entry))) ⌝ }
+{
+    if p.number == 0 {
+        table[place] = p.after;
+    }
+    p.number
+}
+
+// The steps that a run took, laid into the records; the run's answer is handed on.
+pub(crate) fn put_steps(table: &mut [Record], r: RanTaken) -> Ran
+    requires { ⌜ (r .ran .number ≡ 0 → mostCommands ≤ length (now table)) ⌝ }
+    ensures { λ ran. ⌜ (ran ≡ r .ran) × (now (table .exit) ≡ withSteps r (now (table .entry))) ⌝ }
+{
+    let ran = r.ran;
+    let taken = r.taken;
+    let n = changed(ran.number);
+    let mut k = 0;
+    while k < n {
+        table[k] = command::with_taken(table[k], taken[k]);
+        k += 1;
+    }
+    ran
 }

@@ -1,7 +1,6 @@
 // The firmware as C and Rust programs link it: every function here that is exported works on what its caller lends, memory, image and
-// a table of at least 32 records, and refuses by document 01's numbers. include/rosadenca.h declares them for C.
-pub mod by_value;
-pub mod fields;
+// a table of at least 32 records, and refuses by the numbers of the rules. include/rosadenca.h declares them for C.
 pub mod laid;
 pub mod look;
 pub mod table;
+pub mod view;

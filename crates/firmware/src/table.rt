@@ -1,61 +1,35 @@
-// The walk, the pick and the two runs over a table that is lent as a run of at least 32 records, for C and Rust to call. They are thin
-// over the forms by value and give the same replies; a lent table shorter than 32 gets 1, and on a refusal nothing is changed.
-use crate::by_value;
+// The walk, the pick, the two runs and a chain's steps over a table that is lent as a run of records, for C and Rust to call. They are
+// thin over the functions on a table by value, and mean the same (Record 2); a lent table shorter than 32 gets 1 (Size 4).
 use crate::laid;
-use crate::laid::Laid;
 use meaning::Drive;
+use meaning::Ran;
 use meaning::Record;
+use meaning::Walked;
+use meaning::WalkedTable;
 ghost use mathlib.Core.Path.{_≡_};
-ghost use Rattle.firmware.specs.Laid.{replyOf, reportOf};
-ghost use Rattle.firmware.specs.Lent.{WalkGives, PickGives, PicksGive, WrittenGives};
+ghost use Prim.Native.Nat.{min};
+ghost use Rattle.meaning.specs.State.{mostCommands, stateOf};
+ghost use Rattle.meaning.specs.Walk.{WalkGives};
+ghost use Rattle.meaning.specs.Pick.{PickGives};
+ghost use Rattle.meaning.specs.Run.{chainSteps, byPicks, asWritten, RunGives};
+ghost use Rattle.firmware.specs.Laid.{walkedFor};
 
-// What the walk over a lent table gives: its number, and how many commands there are (0 on a refusal).
-#[repr(C)]
-pub struct LentWalked {
-    pub number: u8,
-    pub commands: usize,
-}
-
-// What a run over a lent table reports: steps taken, picks refused (0 for a run as written), its number, and whether all commands are
-// finished.
-#[repr(C)]
-pub struct LentRan {
-    pub steps: u64,
-    pub refused: u64,
-    pub number: u8,
-    pub finished: bool,
-}
-
-// What the walk answers.
-fn reply(l: Laid) -> LentWalked
-    ensures { λ r. ⌜ r ≡ replyOf l ⌝ }
+// The walk for a lent table of this length: it fills a table of no records.
+fn walk_for(memory: &[u8], image: &[u8], d: Drive, start: u32, length: usize) -> WalkedTable
+    ensures { λ w. ⌜ w ≡ walkedFor d start length (now (memory .entry)) (now (image .entry)) ⌝ }
 {
-    LentWalked {
-        number: l.number,
-        commands: l.count,
+    let table = laid::blank();
+    if length < chain::walk::MOST_COMMANDS {
+        let walked = Walked {
+            number: 1,
+            commands: 0,
+        };
+        return WalkedTable { walked, table };
     }
+    chain::walk::walk(memory, image, d, start, table)
 }
 
-// What a pick answers.
-fn number(l: Laid) -> u8
-    ensures { λ n. ⌜ n ≡ l .number ⌝ }
-{
-    l.number
-}
-
-// What a run answers.
-fn report(l: Laid) -> LentRan
-    ensures { λ r. ⌜ r ≡ reportOf l ⌝ }
-{
-    LentRan {
-        steps: l.steps,
-        refused: l.refused,
-        number: l.number,
-        finished: l.finished,
-    }
-}
-
-// The walk: records past the last command, and all of them on a refusal, are left alone.
+// The walk: records past the last command, and all of them on a refusal, are left alone (Walk 1 to 10, Record 7).
 #[no_mangle]
 pub extern "C" fn rosadenca_walk(
     memory: &[u8],
@@ -63,15 +37,16 @@ pub extern "C" fn rosadenca_walk(
     drive: Drive,
     start: u32,
     table: &mut [Record],
-) -> LentWalked
-    ensures { λ r. ⌜ WalkGives (now (memory .entry)) (now (image .entry)) drive start (now (table .entry)) r (now (table .exit)) ⌝ }
+) -> Walked
+    ensures { λ w. ⌜ WalkGives drive start (stateOf (now (memory .entry)) (now (image .entry)) (now (table .entry))) w (now (table .exit)) ⌝ }
 {
-    let l = by_value::walk(memory, image, drive, start, table.len());
-    laid::store(table, l);
-    reply(l)
+    let w = walk_for(memory, image, drive, start, table.len());
+    let walked = w.walked;
+    laid::fill(table, w.table, walked.commands);
+    walked
 }
 
-// A pick: on 0 one step at its place.
+// A pick: on 0 one step at its place (Pick 1 to 7).
 #[no_mangle]
 pub extern "C" fn rosadenca_pick<'a>(
     memory: &'a mut [u8],
@@ -81,16 +56,15 @@ pub extern "C" fn rosadenca_pick<'a>(
     commands: usize,
     place: usize,
 ) -> u8
-    ensures { λ n. ⌜ PickGives drive commands place (now (memory .entry)) (now (image .entry)) (now (table .entry)) n (now (memory .exit)) (now (image .exit)) (now (table .exit)) ⌝ }
+    ensures { λ n. ⌜ PickGives drive commands place (stateOf (now (memory .entry)) (now (image .entry)) (now (table .entry))) n (stateOf (now (memory .exit)) (now (image .exit)) (now (table .exit))) ⌝ }
 {
     let length = table.len();
-    let t = laid::load(&mut *table, laid::fit(length));
-    let l = by_value::pick(memory, image, drive, t, length, commands, place);
-    laid::store(table, l);
-    number(l)
+    let t = laid::load(table);
+    let p = board::pick::pick_record(memory, image, drive, t, length, commands, place);
+    laid::put_record(table, place, p)
 }
 
-// A run by picks: a refused pick is passed over, and counted.
+// A run by picks: a refused pick is passed over, and counted (Run 1 to 4).
 #[no_mangle]
 pub extern "C" fn rosadenca_run_picks<'a>(
     memory: &'a mut [u8],
@@ -99,17 +73,16 @@ pub extern "C" fn rosadenca_run_picks<'a>(
     table: &'a mut [Record],
     commands: usize,
     picks: &'a [u8],
-) -> LentRan
-    ensures { λ r. ⌜ PicksGive drive commands (now (picks .entry)) (now (memory .entry)) (now (image .entry)) (now (table .entry)) r (now (memory .exit)) (now (image .exit)) (now (table .exit)) ⌝ }
+) -> Ran
+    ensures { λ r. ⌜ RunGives drive commands (byPicks drive commands (now (picks .entry))) (stateOf (now (memory .entry)) (now (image .entry)) (now (table .entry))) r (stateOf (now (memory .exit)) (now (image .exit)) (now (table .exit))) ⌝ }
 {
     let length = table.len();
-    let t = laid::load(&mut *table, laid::fit(length));
-    let l = by_value::run_picks(memory, image, drive, t, length, commands, picks);
-    laid::store(table, l);
-    report(l)
+    let t = laid::load(table);
+    let r = board::run::picks_taken(memory, image, drive, t, length, commands, picks);
+    laid::put_steps(table, r)
 }
 
-// A run as written within a step budget: always the earliest unfinished command.
+// A run as written within a step budget: always the earliest unfinished command (Run 5).
 #[no_mangle]
 pub extern "C" fn rosadenca_run_written<'a>(
     memory: &'a mut [u8],
@@ -118,12 +91,27 @@ pub extern "C" fn rosadenca_run_written<'a>(
     table: &'a mut [Record],
     commands: usize,
     budget: u64,
-) -> LentRan
-    ensures { λ r. ⌜ WrittenGives drive commands budget (now (memory .entry)) (now (image .entry)) (now (table .entry)) r (now (memory .exit)) (now (image .exit)) (now (table .exit)) ⌝ }
+) -> Ran
+    ensures { λ r. ⌜ RunGives drive commands (asWritten drive commands budget) (stateOf (now (memory .entry)) (now (image .entry)) (now (table .entry))) r (stateOf (now (memory .exit)) (now (image .exit)) (now (table .exit))) ⌝ }
 {
     let length = table.len();
-    let t = laid::load(&mut *table, laid::fit(length));
-    let l = by_value::run_written(memory, image, drive, t, length, commands, budget);
-    laid::store(table, l);
-    report(l)
+    let t = laid::load(table);
+    let r = board::run::written_taken(memory, image, drive, t, length, commands, budget);
+    laid::put_steps(table, r)
+}
+
+// How many of so many commands have a record, in a table of this length.
+fn in_table(length: usize, commands: usize) -> usize
+    ensures { λ n. ⌜ n ≡ min commands length ⌝ }
+{
+    if commands < length { commands } else { length }
+}
+
+// The steps of a chain, from its start: the sum of the steps of its commands, of 32 at most and of no more than the table has (Run 6).
+#[no_mangle]
+pub extern "C" fn rosadenca_chain_steps(table: &[Record], commands: usize) -> u64
+    ensures { λ n. ⌜ n ≡ chainSteps (now (table .entry)) (min commands mostCommands) ⌝ }
+{
+    let n = in_table(table.len(), commands);
+    board::run::chain_steps(laid::load(table), n)
 }

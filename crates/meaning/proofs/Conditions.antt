@@ -62,10 +62,6 @@ right-store d s e =
     go : {b : Bool} → Means (memoryLimit < length (s memory)) b → ¬ (memoryLimit < length (s memory)) → length (s memory) ≤ memoryLimit
     go m h = omega arith
 
-pub record RightSizes (d : Drive) (s : State) : Type 0 where
-  pub store-right : storeWrong d (s .store) ≡ false
-  pub table-long : mostCommands ≤ length (s .table)
-
 -- ---- kinds
 
 pub means-reads : (r : Record) → Means (Reads r) (reads r)

@@ -4,7 +4,7 @@ use Prim.Native.Nat.{ℕ, suc, _+_, _<_}
 use native.Mathlib.Omega.{arith}
 use mathlib.Core.Bool.{true, false}
 use mathlib.Core.List.{List}
-use borrow.Author.Tests.{leb-true, leb-false, le-leb, lt-leb, le-ltb}
+use borrow.Author.Tests.{leb-true, leb-false, lt-leb, le-ltb}
 use Rattle.meaning.specs.declared.Drive.{Drive}
 use Rattle.meaning.specs.declared.Record.{Record}
 use Rattle.meaning.specs.Command.{stepsOf, finished, remaining}
@@ -22,10 +22,6 @@ finished-none r e = omega (arith, leb-true)
 pub unfinished-some : (r : Record) → finished r ≡ false → 0 < remaining r
 unfolding finished remaining
 unfinished-some r e = omega (arith, leb-false)
-
-pub none-finished : (r : Record) → remaining r ≡ 0 → finished r ≡ true
-unfolding finished remaining
-none-finished r e = le-leb (stepsOf r) (r .taken) (omega arith)
 
 pub some-unfinished : (r : Record) → 0 < remaining r → finished r ≡ false
 unfolding finished remaining

@@ -150,7 +150,7 @@ pub record Sound (d : Drive) (s : Store) (t : List Record) (n : ℕ) : Type 0 wh
   -- of each command all its steps remain, so the steps that remain are the chain's
   pub steps : stepsLeft t n ≡ chainSteps t n
 
-table-length : (rs t : List Record) → length rs ≤ length t → length (rs ++ drop (length rs) t) ≡ length t
+pub table-length : (rs t : List Record) → length rs ≤ length t → length (rs ++ drop (length rs) t) ≡ length t
 table-length rs t h = simp (length-append, length-drop) (omega arith)
 
 -- an accepted chain, in the table that it was walked into

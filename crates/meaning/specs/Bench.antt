@@ -1,4 +1,4 @@
--- What comes of a deck: the chain starts at 0 and runs as written.
+-- What comes of a deck: the chain starts at 0 and runs as written (Bench 7).
 use Prim.Native.Nat.{ℕ}
 use mathlib.Core.Bool.{cond}
 use mathlib.Core.List.{List, map}

@@ -1,4 +1,4 @@
--- The code that each command will get: fixed at the walk, from the copied bytes.
+-- The code that each command will get: fixed at the walk, from the copied bytes (Code 1 to 12).
 use Prim.Native.Nat.{ℕ, _+_, _*_, _%_}
 use mathlib.Core.Bool.{Bool, not, _&&_, _||_}
 use mathlib.Core.List.{List, [], _∷_}
@@ -55,32 +55,33 @@ firstSector d c = sectorNumber d (c .cylinder) (c .head) (c .sector)
 -- What every command is asked, row by row. A No Operation that comes this far has nothing more to be asked.
 abbrev pub commandRows : Copied → List Row
 commandRows c =
-    -- CHEN set and the next address odd: next alignment error
+    -- Code 1: CHEN set and the next address odd, a next alignment error
     (chained c && odd (c .next)) ↝ 0x1E
-    -- a command above 2, or SGM set, or byte 4 not zero
+    -- Code 2: a command above 2, or SGM set, or byte 4 not zero
     ∷ (ltb read (commandIn (c .byte0)) || gathers c || not (eqb (c .subfunction) 0)) ↝ 0x14
+    -- Code 3: a No Operation
     ∷ eqb (commandIn (c .byte0)) nop ↝ 0x00
     ∷ []
 
 -- What only a transfer is asked, row by row; n is the length of memory.
 abbrev pub transferRows : Copied → Drive → ℕ → List Row
 transferRows c d n =
-    -- a unit that is not there: drive not ready
+    -- Code 4: a unit that is not there, so a drive that is not ready
     not (eqb (c .unit) theUnit) ↝ 0x42
-    -- no sector is asked for
+    -- Code 5: no sector is asked for
     ∷ eqb (c .count) 0 ↝ 0x13
-    -- cylinder, then head, then sector above its maximum
+    -- Code 6 to 8: cylinder, then head, then sector above its maximum
     ∷ ltb (d .cylinder) (c .cylinder) ↝ 0x10
     ∷ ltb (d .head) (c .head) ↝ 0x11
     ∷ ltb (d .sector) (c .sector) ↝ 0x12
-    -- the sectors go past the end of the drive
+    -- Code 9: the sectors go past the end of the drive
     ∷ ltb (sectorCount d) (firstSector d c + c .count) ↝ 0x10
-    -- a Write Data on a protected drive
+    -- Code 10: a Write Data on a protected drive
     ∷ (eqb (commandIn (c .byte0)) write && d .protected) ↝ 0x90
-    -- the data goes past the end of memory: bus error
+    -- Code 11: the data goes past the end of memory, a bus error
     ∷ ltb n (c .address + sectorBytes * c .count) ↝ 0x4B
     ∷ []
 
--- the first that applies wins; 00 otherwise
+-- the first that applies wins; 00 otherwise (Code 12)
 unfoldable pub codeOf : Copied → Drive → ℕ → ℕ
 codeOf c d n = firstOf (commandRows c) (firstOf (transferRows c d n) 0x00)

@@ -17,11 +17,11 @@ writes r = eqb (r .code) 0 && eqb (commandIn (r .byte0)) write
 abbrev pub transfers : Record → Bool
 transfers r = reads r || writes r
 
--- a transfer with code 00 has as many steps as its count; every other command has one
+-- a transfer with code 00 has as many steps as its count; every other command has one (Step 1 and 2)
 unfoldable pub stepsOf : Record → ℕ
 stepsOf r = cond (transfers r) (r .count) 1
 
--- no step is left
+-- no step is left (Step 10)
 unfoldable pub finished : Record → Bool
 unfolding stepsOf
 finished r = leb (stepsOf r) (r .taken)

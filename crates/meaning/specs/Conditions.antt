@@ -1,14 +1,15 @@
 -- What the tables of the rules ask of sizes, records and commands, in words: each as a proposition over numbers, bytes and sectors.
--- The tests of the other files are proved to mean exactly these (proofs/Conditions, proofs/Conflict).
+-- The tests of the other files are proved to mean exactly these (proofs/Ranges, proofs/Conditions, proofs/Conflict).
 use mathlib.Core.Path.{_≡_}
-use mathlib.Core.Logic.{_≢_, _⊎_}
+use mathlib.Core.Logic.{_↔_, _≢_, _⊎_}
 use Prim.Native.Nat.{ℕ, _+_, _*_, _%_, _≤_, _<_}
 use mathlib.Core.Bool.{true}
 use mathlib.Core.List.{List}
 use lib.ListN.{length, getD}
 use Rattle.meaning.specs.declared.Drive.{Drive}
 use Rattle.meaning.specs.declared.Record.{Record}
-use Rattle.meaning.specs.Store.{Space, memory, disk, Store, theUnit, theDisk}
+use Rattle.meaning.specs.Store.{Space, memory, Store, theDisk}
+use Rattle.meaning.specs.Ranges.{Range, overlap}
 use Rattle.meaning.specs.State.{State, mostCommands}
 use Rattle.meaning.specs.Sectors.{sectorBytes, imageLimit, sectorCount}
 use Rattle.meaning.specs.Fields.{iopbBytes}
@@ -23,6 +24,18 @@ Within x a n = (a ≤ x) × (x < a + n)
 
 abbrev pub Odd : ℕ → Type 0
 Odd a = a % 2 ≡ 1
+
+-- x of a space, a byte of memory or a sector of a disk, lies in a range
+abbrev pub LiesIn : Range → Space → ℕ → Type 0
+LiesIn r p x = (p ≡ r .space) × Within x (r .from) (r .many)
+
+-- two ranges overlap exactly if something lies in both
+abbrev pub OverlapIsSharing : Type 0
+OverlapIsSharing = (r s : Range) → (overlap r s ≡ true) ↔ ((p : Space) × (x : ℕ) × LiesIn r p x × LiesIn s p x)
+
+-- two IOPBs, at a and at b, share a byte
+abbrev pub Shares : ℕ → ℕ → Type 0
+Shares a b = (x : ℕ) × Within x a iopbBytes × Within x b iopbBytes
 
 -- an image over its limit, or not of the drive's size
 abbrev pub ImageWrong : Drive → Store → Type 0
@@ -64,14 +77,21 @@ BadRecord d s r =
 abbrev pub Spoiled : Drive → ℕ → State → Type 0
 Spoiled d n s = (mostCommands < n) ⊎ ((k : ℕ) × (k < n) × (k < length (s .table)) × BadRecord d (s .store) (getD (s .table) k noRecord))
 
--- What a command reads, and what it writes: byte x of memory, or sector x of the disk of a unit.
+-- What a command reads, and what it writes, at x of a space: byte x of memory, or sector x of a disk.
+abbrev pub InData : Record → Space → ℕ → Type 0
+InData r p x = (p ≡ memory) × Within x (dataByte r 0) (sectorBytes * r .count)
+
+abbrev pub InStatus : Record → Space → ℕ → Type 0
+InStatus r p x = (p ≡ memory) × Within x (r .iopb) 4
+
+abbrev pub InSectors : Record → Space → ℕ → Type 0
+InSectors r p x = (p ≡ theDisk) × Within x (r .sector) (r .count)
+
 abbrev pub ReadsAt : Record → Space → ℕ → Type 0
-ReadsAt r memory x = Writes r × Within x (r .address) (sectorBytes * r .count)
-ReadsAt r (disk u) x = Reads r × ((u ≡ theUnit) × Within x (r .sector) (r .count))
+ReadsAt r p x = (Writes r × InData r p x) ⊎ (Reads r × InSectors r p x)
 
 abbrev pub WritesAt : Record → Space → ℕ → Type 0
-WritesAt r memory x = (Reads r × Within x (r .address) (sectorBytes * r .count)) ⊎ Within x (r .iopb) 4
-WritesAt r (disk u) x = Writes r × ((u ≡ theUnit) × Within x (r .sector) (r .count))
+WritesAt r p x = (Reads r × InData r p x) ⊎ (Writes r × InSectors r p x) ⊎ InStatus r p x
 
 -- one of them writes a byte or sector that the other reads or writes
 abbrev pub Disturbs : Record → Record → Type 0

@@ -1,4 +1,4 @@
--- A deck: document 01, "The bench program", its first paragraph. b is the bytes of a deck.
+-- A deck, and the memory, drive and image that it is run on (Bench 1 to 6). b is the bytes of a deck.
 use Prim.Native.Nat.{ℕ, _+_, _*_, _/_, _%_}
 use mathlib.Core.Bool.{Bool, not, _&&_, cond}
 use mathlib.Core.List.{List, [], _++_, foldl}
@@ -10,7 +10,7 @@ use Rattle.meaning.specs.declared.Drive.{Drive}
 use Rattle.meaning.specs.Sectors.{sectorBytes}
 use Rattle.meaning.specs.Fields.{iopbBytes}
 
--- "records of 32 bytes, no header, 1 to 32 of them"
+-- Bench 1: records of 32 bytes, with no header, 1 to 32 of them
 abbrev pub recordBytes : ℕ
 recordBytes = 32
 
@@ -24,11 +24,11 @@ recordCount b = length b / recordBytes
 abbrev pub byteIn : List ℕ → ℕ → ℕ → ℕ
 byteIn b k j = getD b (recordBytes * k + j) 0
 
--- "Byte 31 of the first record is 1 for a protected drive, else 0; all other bytes 30 and 31 are 0."
+-- Bench 3: byte 31 of the first record is 0 or 1; all other bytes 30 and 31 are 0
 unfoldable pub fillersRight : List ℕ → ℕ → Bool
 fillersRight b k = eqb (byteIn b k 30) 0 && leb (byteIn b k 31) (cond (eqb k 0) 1 0)
 
--- "A deck that breaks this gives the one line `deck`."
+-- Bench 4: anything else is no deck
 unfoldable pub isDeck : List ℕ → Bool
 unfolding fillersRight
 isDeck b =
@@ -37,11 +37,11 @@ isDeck b =
     && leb (recordCount b) mostRecords
     && everyOf (fillersRight b) (upTo (recordCount b))
 
--- "The drive has maxima 1, 1 and 7", and byte 31 of the first record protects it
+-- Bench 3 and 6: maxima 1, 1 and 7, and byte 31 of the first record protects it
 unfoldable pub benchDrive : List ℕ → Drive
 benchDrive b = record { cylinder = 1; head = 1; sector = 7; protected = eqb (byteIn b 0 31) 1 }
 
--- "Memory is 4,096 zero bytes with record k's IOPB at 32 x k."
+-- Bench 5: zeros, with the IOPB of record k at 32 x k
 abbrev pub memoryBytes : ℕ
 memoryBytes = 4096
 
@@ -52,7 +52,7 @@ unfoldable pub benchMemory : List ℕ → List ℕ
 unfolding layRecord
 benchMemory b = foldl (layRecord b) (replicate memoryBytes 0) (upTo (recordCount b))
 
--- "so 32 sectors, and every byte of sector n is n"
+-- Bench 6: 32 sectors, and every byte of sector n is n
 unfoldable pub sectorsTo : ℕ → List ℕ
 sectorsTo n = foldl (λ i k. i ++ replicate sectorBytes k) [] (upTo n)
 

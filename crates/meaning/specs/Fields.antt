@@ -1,5 +1,5 @@
--- The thirty bytes of an IOPB: document 01, the table under that heading. m is memory and a the IOPB's address.
--- "Any viewer whose thirty bytes are not all in its memory gives 0 for every field": so does every field here.
+-- The thirty bytes of an IOPB, field by field (IOPB 1 to 16). m is memory and a the IOPB's address. Where the thirty bytes are not all
+-- in memory every field is 0, as a viewer shows it (View 7).
 --
 use Prim.Native.Nat.{ℕ, _+_, _*_, _/_, _%_, _^_}
 use mathlib.Core.Bool.{Bool, cond}
@@ -7,7 +7,7 @@ use mathlib.Core.List.{List}
 use lib.ListN.{length, getD}
 use lib.Dec.{leb}
 
--- "The thirty bytes of an IOPB"
+-- the bytes of an IOPB (IOPB 1)
 abbrev pub iopbBytes : ℕ
 iopbBytes = 30
 
@@ -23,7 +23,7 @@ byteOf m a k = cond (allIn m a) (getD m (a + k) 0) 0
 abbrev pub bit : ℕ → ℕ → ℕ
 bit k b = b / 2 ^ k % 2
 
--- "Numbers of several bytes have the high byte first"
+-- numbers of several bytes have the high byte first (IOPB 2)
 abbrev pub twoBytes : List ℕ → ℕ → ℕ → ℕ
 twoBytes m a k = byteOf m a k * 256 + byteOf m a (k + 1)
 
@@ -31,7 +31,7 @@ abbrev pub fourBytes : List ℕ → ℕ → ℕ → ℕ
 fourBytes m a k = twoBytes m a k * 65536 + twoBytes m a (k + 2)
 
 module _ (m : List ℕ) (a : ℕ) where
-  -- byte 0: "bit 7 ERRS, bit 6 DONE, bit 5 CHEN, bit 4 SGM, bits 3-0 command"
+  -- byte 0: bit 7 is ERRS, bit 6 DONE, bit 5 CHEN, bit 4 SGM, bits 3-0 the command (IOPB 3)
   abbrev pub errs : ℕ
   errs = bit 7 (byteOf m a 0)
 
@@ -47,11 +47,11 @@ module _ (m : List ℕ) (a : ℕ) where
   abbrev pub command : ℕ
   command = byteOf m a 0 % 16
 
-  -- byte 1: "completion code"
+  -- byte 1: the completion code (IOPB 4)
   abbrev pub completion : ℕ
   completion = byteOf m a 1
 
-  -- byte 2: "bit 4 WRPT, bit 1 ONCL, bit 0 DRDY"
+  -- byte 2: bit 4 is WRPT, bit 1 ONCL, bit 0 DRDY (IOPB 5)
   abbrev pub wrpt : ℕ
   wrpt = bit 4 (byteOf m a 2)
 
@@ -61,23 +61,23 @@ module _ (m : List ℕ) (a : ℕ) where
   abbrev pub drdy : ℕ
   drdy = bit 0 (byteOf m a 2)
 
-  -- byte 3: "internal status"
+  -- byte 3: the internal status (IOPB 6)
   abbrev pub internal : ℕ
   internal = byteOf m a 3
 
-  -- byte 4: "subfunction"
+  -- byte 4: the subfunction (IOPB 7)
   abbrev pub subfunction : ℕ
   subfunction = byteOf m a 4
 
-  -- byte 5: the unit. 01's table says bits 1-0; it names the manual as its source, and 001, section 4.1.6, says bits 2-0
+  -- byte 5: the unit, bits 2-0 (IOPB 8 and 16)
   abbrev pub unit : ℕ
   unit = byteOf m a 5 % 8
 
-  -- bytes 8-9: "count of sectors"
+  -- bytes 8-9: the count of sectors (IOPB 9)
   abbrev pub count : ℕ
   count = twoBytes m a 8
 
-  -- bytes A-B, C, D: "cylinder, head, sector"
+  -- bytes A-B, C, D: cylinder, head, sector (IOPB 10 to 12)
   abbrev pub cylinder : ℕ
   cylinder = twoBytes m a 0xA
 
@@ -87,10 +87,10 @@ module _ (m : List ℕ) (a : ℕ) where
   abbrev pub sector : ℕ
   sector = byteOf m a 0xD
 
-  -- bytes 10-13: "data address"
+  -- bytes 10-13: the data address (IOPB 13)
   abbrev pub data-address : ℕ
   data-address = fourBytes m a 0x10
 
-  -- bytes 14-17: "next IOPB address"
+  -- bytes 14-17: the address of the next IOPB (IOPB 14)
   abbrev pub next-address : ℕ
   next-address = fourBytes m a 0x14

@@ -2,6 +2,7 @@
 -- viewer over it; the walk and the codes; steps and when a command waits; picks and runs; the bench; and the starred examples, proved.
 pub mod First
 pub mod Each
+pub mod OneReply
 pub mod Store
 pub mod Sectors
 pub mod Look

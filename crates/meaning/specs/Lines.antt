@@ -1,4 +1,4 @@
--- The lines that the bench prints, as bytes: document 01, "The bench program".
+-- The lines that the bench prints, as bytes (Bench 4, 8 and 9).
 use Prim.Native.Nat.{ℕ, zero, suc, _+_, _/_, _%_}
 use mathlib.Core.Bool.{cond}
 use mathlib.Core.List.{List, [], _∷_, _++_}
@@ -25,7 +25,7 @@ stepsWord = 0x73 ∷ 0x74 ∷ 0x65 ∷ 0x70 ∷ 0x73 ∷ []
 abbrev pub digit : ℕ → ℕ
 digit n = cond (ltb n 10) (0x30 + n) (0x37 + n)
 
--- "two upper-case hex digits"
+-- two upper-case hexadecimal digits
 abbrev pub hex : ℕ → List ℕ
 hex n = digit (n / 16) ∷ digit (n % 16) ∷ []
 
@@ -38,13 +38,13 @@ unfoldable pub decimal : ℕ → List ℕ
 unfolding digits
 decimal n = digits 20 n
 
--- "one line for each command (place in decimal, two upper-case hex digits of its code)"; `place` is the first one's
+-- Bench 9: a line for each command, its place in decimal and its code; `place` is the first one's
 unfoldable pub commandLines : ℕ → List ℕ → List ℕ
 unfolding decimal
 commandLines place [] = []
 commandLines place (code ∷ codes) = decimal place ++ space ∷ hex code ++ newline ∷ [] ++ commandLines (place + 1) codes
 
--- "and a last line with the steps"; "If the walk refuses, the line is `chain` and the number"; "the one line `deck`"
+-- Bench 4, 8 and 9: the one line `deck`, or `chain` and the number, or the commands' lines and a last one with the steps
 unfoldable pub linesOf : Outcome → List ℕ
 unfolding commandLines
 linesOf noDeck = deckWord ++ newline ∷ []

@@ -19,7 +19,7 @@ use Rattle.meaning.specs.Command.{writes, transfers, stepsOf, finished, 
 use Rattle.meaning.specs.Touch.{conflict}
 use Rattle.meaning.specs.Step.{step, stepped}
 
--- a code 00 transfer with count zero, with data or sectors outside memory or drive, or writing to a protected drive
+-- Spoiled 4 to 7: a code 00 transfer with count zero, with data or sectors outside memory or drive, or writing to a protected drive
 unfoldable pub badTransfer : Drive → Store → Record → Bool
 badTransfer d s r =
     eqb (r .count) 0
@@ -27,22 +27,22 @@ badTransfer d s r =
     || ltb (sectorCount d) (r .sector + r .count)
     || writes r && d .protected
 
--- a record whose IOPB is not all in memory, or with more steps taken than it has, or that is such a transfer
+-- Spoiled 2 and 3: a record whose IOPB is not all in memory, or with more steps taken than it has, or that is such a transfer
 unfoldable pub badRecord : Drive → Store → Record → Bool
 unfolding badTransfer stepsOf
 badRecord d s r = not (allIn (s memory) (r .iopb)) || ltb (stepsOf r) (r .taken) || transfers r && badTransfer d s r
 
--- the table has over 32 commands, or a record in use is bad
+-- Spoiled 1: the table has over 32 commands, or a record in use is bad
 unfoldable pub spoiled : Drive → ℕ → State → Bool
 unfolding badRecord
 spoiled d n s = ltb mostCommands n || someOf (badRecord d (s .store)) (take n (s .table))
 
--- an earlier unfinished command conflicts with the one at p
+-- an earlier unfinished command conflicts with the one at p (Pick 6)
 unfoldable pub waits : List Record → ℕ → Bool
 unfolding finished conflict
 waits t p = someOf (λ e. not (finished e) && conflict e (getD t p noRecord)) (take p t)
 
--- the rows that both runs test too, and the rows after them, each in its order
+-- the rows that both runs test too (Pick 2 and 3), and the rows after them (Pick 4 to 6), each in its order
 abbrev pub runRows : Drive → ℕ → State → List Row
 runRows d n s =
     sizesWrong d s ↝ 1
@@ -64,7 +64,7 @@ unfoldable pub pickNumber : Drive → ℕ → ℕ → State → ℕ
 unfolding sizesWrong spoiled placeNumber
 pickNumber d n p s = firstOf (runRows d n s) (placeNumber (s .table) n p)
 
--- one step at place p
+-- one step at place p (Pick 7)
 unfoldable pub stepAt : Drive → ℕ → State → State
 unfolding step stepped
 stepAt d p s =

@@ -1,4 +1,4 @@
--- The two runs, by a list of picks and as written, and the whole of either. Both test 1 and 9 first.
+-- The two runs, by a list of picks (Run 1 to 4) and as written (Run 5), and the whole of either. Both test 1 and 9 first (Run 8).
 use mathlib.Core.Path.{_≡_}
 use Prim.Native.Nat.{ℕ, zero, suc, _+_, _-_, min}
 use mathlib.Core.Bool.{Bool, false, cond}
@@ -17,7 +17,7 @@ use Rattle.meaning.specs.Command.{stepsOf, finished, remaining}
 use Rattle.meaning.specs.Step.{step, stepped}
 use Rattle.meaning.specs.Pick.{spoiled, runRows, pickNumber, stepAt}
 
--- a chain's steps, from its start: the sum of the steps of its commands
+-- a chain's steps, from its start: the sum of the steps of its commands (Run 6)
 unfoldable pub chainSteps : List Record → ℕ → ℕ
 unfolding stepsOf
 chainSteps t n = sumOf stepsOf (take n t)
@@ -48,7 +48,7 @@ atStart s = record { steps = 0; refused = 0; state = s }
 
 -- ---- by picks
 
--- one pick of a run: where it is refused it is passed over, and counted
+-- one pick of a run: where it is refused it is passed over, and counted (Run 2 and 4)
 unfoldable pub onePick : Drive → ℕ → ℕ → Tally → Tally
 unfolding pickNumber stepAt
 onePick d n p y =
@@ -78,7 +78,8 @@ unfolding step stepped
 stepsDone d zero r s = s
 stepsDone d (suc k) r s = stepsDone d k (stepped r) (step d r s)
 
--- of each command in turn as many steps as are left of it, or of the budget b: always the earliest unfinished command
+-- of each command in turn as many steps as are left of it, or of the budget b: always the earliest
+-- unfinished command
 unfoldable pub written : Drive → ℕ → List Record → Store → Tally
 unfolding remaining advanced stepsDone
 written d b [] s = atStart (record { table = []; store = s })

@@ -1,4 +1,4 @@
--- Number 1 of every call: sizes that are wrong.
+-- Number 1 of every call: sizes that are wrong (Size 1 to 4).
 use Prim.Native.Nat.{ℕ}
 use mathlib.Core.Bool.{Bool, not, _||_}
 use lib.ListN.{length}
@@ -8,7 +8,7 @@ use Rattle.meaning.specs.Store.{memory, Store, theDisk}
 use Rattle.meaning.specs.State.{State, mostCommands}
 use Rattle.meaning.specs.Sectors.{imageRight}
 
--- the most bytes of host memory
+-- the most bytes of host memory (Board 1)
 abbrev pub memoryLimit : ℕ
 memoryLimit = 65_536
 

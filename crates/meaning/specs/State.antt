@@ -1,11 +1,11 @@
 -- What a call works on: the table of accepted commands, in the caller's hands, with memory and image. A table by value has exactly 32
--- records; a lent one may have any number, and both forms of a call mean the same.
+-- records; a lent one may have any number, and both forms of a call mean the same (Record 1 and 2).
 use Prim.Native.Nat.{ℕ}
 use mathlib.Core.List.{List}
 use Rattle.meaning.specs.declared.Record.{Record}
 use Rattle.meaning.specs.Store.{Store, lent}
 
--- the most commands of a chain, and the fewest records of a table
+-- the most commands of a chain, and the fewest records of a table (Walk 3, Size 4)
 abbrev pub mostCommands : ℕ
 mostCommands = 32
 

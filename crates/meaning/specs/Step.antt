@@ -10,7 +10,7 @@ use Rattle.meaning.specs.declared.Record.{Record}
 use Rattle.meaning.specs.Command.{reads, writes, stepsOf}
 use Rattle.meaning.specs.Touch.{dataByte}
 
--- step k of a command moves its k-th sector, in rising sector number; k counts from 0
+-- step k of a command moves its k-th sector, in rising sector number; k counts from 0 (Step 3)
 abbrev pub sectorAt : Record → ℕ → Area
 sectorAt r k = onDisk theUnit (r .sector + k)
 
@@ -27,21 +27,21 @@ sectorMoveBy rd wr r k =
 unfoldable pub sectorMove : Record → ℕ → List Move
 sectorMove r k = sectorMoveBy (reads r) (writes r) r k
 
--- byte 0 of a close is the copied byte 0 with DONE set, and ERRS set exactly if the code is not 00
+-- Step 6: byte 0 of a close is the copied byte 0 with DONE set, and ERRS set exactly if the code is not 00
 unfoldable pub closingByte0 : Record → ℕ
 closingByte0 r = r .byte0 % 64 + 64 + cond (eqb (r .code) 0) 0 128
 
--- byte 1 is the code; byte 2 says on cylinder and ready, and WRPT for a protected drive; byte 3 is 00
+-- Step 7 to 9: byte 1 is the code; byte 2 says on cylinder and ready, and WRPT for a protected drive; byte 3 is 00
 unfoldable pub closing : Drive → Record → List ℕ
 unfolding closingByte0
 closing d r = closingByte0 r ∷ r .code ∷ cond (d .protected) 0x13 0x03 ∷ 0 ∷ []
 
--- a close writes bytes 0 to 3 of the command's own IOPB
+-- Step 5: a close writes bytes 0 to 3 of the command's own IOPB
 unfoldable pub closeMove : Drive → Record → List Move
 unfolding closing
 closeMove d r = post memory (r .iopb) (closing d r) ∷ []
 
--- the last step also closes the command, after its sector has moved
+-- Step 4: the last step also closes the command, after its sector has moved
 unfoldable pub stepMoves : Drive → Record → List Move
 unfolding sectorMove closeMove stepsOf
 stepMoves d r = sectorMove r (r .taken) ++ cond (eqb (r .taken + 1) (stepsOf r)) (closeMove d r) []

@@ -1,4 +1,4 @@
--- Where bytes are, and how they move. A store is asked by space: host memory, or the disk of a unit. An area is some bytes of one space;
+-- Where bytes are, and how they move. A store is asked by space: host memory (Board 1), or the disk of a unit (Board 2). An area is some bytes of one space;
 -- a move copies an area to another place, or posts given bytes. What two areas of different spaces hold never meets.
 use Prim.Native.Nat.{ℕ, zero, suc}
 use mathlib.Core.Bool.{Bool, true, false, cond}
@@ -21,7 +21,7 @@ same (disk u) (disk v) = eqb u v
 abbrev pub Store : Type 0
 Store = Space → List ℕ
 
--- The edge of the code: which lent slice is which space. Memory is m; the image i is the disk of unit 0, the one drive that there is.
+-- The edge of the code: which lent slice is which space. Memory is m; the image i is the disk of unit 0, the one drive that there is (Board 4).
 abbrev pub theUnit : ℕ
 theUnit = 0
 

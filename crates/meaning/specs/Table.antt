@@ -1,4 +1,4 @@
--- How a table of document 01 is read: "Given exactly when (in this order)". A case says in words, as a proposition, when its
+-- How a table of numbers is read: each given exactly when, and in this order. A case says in words, as a proposition, when its
 -- number is given; `Given` says when the table gives a number.
 use mathlib.Core.Path.{_≡_}
 use Prim.Native.Nat.{ℕ, zero, suc}
@@ -19,7 +19,7 @@ P ⇒ N = record { holds = P; gives = N }
 abbrev pub Otherwise : Type 0
 Otherwise = Unit {0}
 
--- "Given exactly when (in this order)": the case that gives N holds, and no case before it does
+-- given exactly when, in this order: the case that gives N holds, and no case before it does
 abbrev pub Given : List Case → ℕ → Type 0
 Given [] N = ⊥
 Given (c ∷ cs) N = cond (eqb (c .gives) N) (c .holds) ((¬ c .holds) × Given cs N)
@@ -29,7 +29,7 @@ abbrev pub NoneOf : List Case → Type 0
 NoneOf [] = Unit
 NoneOf (c ∷ cs) = (¬ c .holds) × NoneOf cs
 
--- "The first that applies wins": case k holds, and no case before it does
+-- the first that applies wins: case k holds, and no case before it does
 abbrev pub FirstAt : List Case → ℕ → Type 0
 FirstAt [] k = ⊥
 FirstAt (c ∷ cs) zero = c .holds

@@ -1,4 +1,4 @@
--- What a command reads and writes, as lists of ranges, and when two commands conflict.
+-- What a command reads and writes from its first step to its close, as lists of ranges, and when two commands conflict (Touch 1 to 5).
 use Prim.Native.Nat.{ℕ, _+_, _*_}
 use mathlib.Core.Bool.{Bool, _||_, cond}
 use mathlib.Core.List.{List, [], _∷_, _++_}
@@ -26,15 +26,15 @@ statusBytes r = bytes (r .iopb) 4
 abbrev pub sectors : Record → Range
 sectors r = sectorsOf theUnit (r .sector) (r .count)
 
--- a Read Data with code 00 reads its sectors, and writes its data bytes and its status bytes
+-- Touch 1: a Read Data with code 00 reads its sectors, and writes its data bytes and its status bytes
 abbrev pub byRead : Record → Touched
 byRead r = record { read = sectors r ∷ []; written = dataBytes r ++ statusBytes r ∷ [] }
 
--- a Write Data with code 00 reads its data bytes, and writes its sectors and its status bytes
+-- Touch 2: a Write Data with code 00 reads its data bytes, and writes its sectors and its status bytes
 abbrev pub byWrite : Record → Touched
 byWrite r = record { read = dataBytes r; written = sectors r ∷ statusBytes r ∷ [] }
 
--- any other command writes its status bytes only
+-- Touch 3: any other command writes its status bytes only
 abbrev pub byOther : Record → Touched
 byOther r = record { read = []; written = statusBytes r ∷ [] }
 
@@ -49,7 +49,7 @@ touched r = touchedBy (reads r) (writes r) r
 unfoldable pub disturbs : Touched → Touched → Bool
 disturbs x y = meet (x .written) (y .read ++ y .written)
 
--- two commands conflict if one of them disturbs the other
+-- Touch 4: two commands conflict if one of them disturbs the other
 unfoldable pub conflict : Record → Record → Bool
 unfolding touched disturbs
 conflict r s = disturbs (touched r) (touched s) || disturbs (touched s) (touched r)

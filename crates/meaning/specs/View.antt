@@ -1,4 +1,4 @@
--- A viewer over lent memory shows one IOPB field by field. m is memory and a the address.
+-- A viewer over lent memory shows one IOPB field by field (View 1). m is memory and a the address.
 use Prim.Native.Nat.{ℕ, _%_}
 use mathlib.Core.Bool.{Bool, not, cond}
 use mathlib.Core.List.{List, [], _∷_}
@@ -13,7 +13,7 @@ pub record Seen : Type 0 where
   pub at : ℕ
   pub number : ℕ
 
--- its making answers 2 for an odd address, then 3 for thirty bytes not all in memory
+-- its making answers 2 for an odd address, then 3 for thirty bytes not all in memory (View 3 to 5)
 unfoldable pub madeNumber : List ℕ → ℕ → ℕ
 madeNumber m a =
     firstOf
@@ -26,7 +26,7 @@ madeNumber m a =
 abbrev pub viewable : List ℕ → ℕ → Bool
 viewable m a = eqb (madeNumber m a) 0
 
--- a viewer keeps the memory and the address; a refused one holds the number, an empty part and address 0
+-- a viewer keeps the memory and the address; a refused one holds the number, an empty part and address 0 (View 6)
 abbrev pub made : List ℕ → ℕ → Seen
 made m a = record { memory = cond (viewable m a) m []; at = cond (viewable m a) a 0; number = madeNumber m a }
 

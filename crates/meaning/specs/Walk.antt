@@ -16,7 +16,7 @@ use Rattle.meaning.specs.Ranges.{bytes, overlap}
 use Rattle.meaning.specs.Sizes.{sizesWrong}
 use Rattle.meaning.specs.Code.{copiedAt, codeOf, chained, odd, firstSector}
 
--- a command's record as the walk fills it: no step taken yet; n is the length of memory
+-- a command's record as the walk fills it, whatever its code: no step taken yet (Record 3 and 4); n is the length of memory
 unfoldable pub recordOf : Copied → ℕ → Drive → ℕ → Record
 recordOf c a d n =
     record {
@@ -29,11 +29,11 @@ recordOf c a d n =
       code = codeOf c d n;
     }
 
--- CHEN set means that another follows; with an odd next address the chain ends here all the same
+-- CHEN set means that another follows; with an odd next address the chain ends here all the same (Walk 2)
 abbrev pub goesOn : Copied → Bool
 goesOn c = chained c && not (odd (c .next))
 
--- two IOPBs, at a and at b, share a byte
+-- two IOPBs, at a and at b, share a byte (Walk 9)
 abbrev pub shares : ℕ → ℕ → Bool
 shares a b = overlap (bytes a iopbBytes) (bytes b iopbBytes)
 
@@ -42,7 +42,8 @@ pub data Chain : Type 0 where
   refused : ℕ → Chain
   accepted : List Record → Chain
 
--- From the IOPB at a on, with `left` more commands allowed and `earlier` before it; m is memory. At each IOPB in turn 5, 3, 4.
+-- From the IOPB at a on, with `left` more commands allowed and `earlier` before it; m is memory. At each IOPB in turn 5, 3, 4
+-- (Walk 7 to 9), until the chain has come to its end (Walk 10).
 unfoldable pub follow : ℕ → List ℕ → Drive → List Record → ℕ → Chain
 follow zero m d earlier a = refused 5
 follow (suc left) m d earlier a =
@@ -53,17 +54,17 @@ follow (suc left) m d earlier a =
     (cond (someOf (λ r. shares (r .iopb) a) earlier) (refused 4)
     (cond (goesOn c) rest (accepted commands)))
 
--- 1, then 2, then along the chain
+-- 1, then 2, then along the chain (Walk 4 to 6)
 unfoldable pub chainAt : Drive → ℕ → State → Chain
 unfolding follow
 chainAt d start s = cond (sizesWrong d s) (refused 1) (cond (odd start) (refused 2) (follow mostCommands (s .store memory) d [] start))
 
--- what the walk answers of a chain: no commands on a refusal
+-- what the walk answers of a chain: no commands on a refusal (Record 5)
 abbrev pub answered : Chain → Walked
 answered (refused n) = record { number = n; commands = 0 }
 answered (accepted rs) = record { number = 0; commands = length rs }
 
--- the table after it: records past the last command, and all of them on a refusal, are left alone
+-- the table after it: records past the last command, and all of them on a refusal, are left alone (Record 7)
 abbrev pub filled : Chain → List Record → List Record
 filled (refused n) t = t
 filled (accepted rs) t = rs ++ drop (length rs) t

@@ -1,7 +1,7 @@
 -- The heart of demand 3, over any commands that are done in steps: a step of a command that clashes with no earlier unfinished
 -- one may be taken at once, and what is left, done as written, ends the same. By induction on the table: at its own place the
 -- step is the command's next one anyway, and further on it commutes with all that is left of each earlier command.
--- Assumes, as parameters of its section, that a step leaves one step less, that a command clashes as before after its step, and
+-- It takes, as parameters of its section, that a step leaves one step less, that a command clashes as before after its step, and
 -- that steps of commands that do not clash commute.
 use mathlib.Core.Path.{_≡_, refl, sym, ap, _∙_}
 use Prim.Native.Nat.{ℕ, zero, suc, _<_}

@@ -1,121 +1,102 @@
--- The counts add up: every pick is a step or a refusal, an accepted pick takes one from what remains, and a run as written takes
--- of each command, and so of all, the smaller of the budget and what remains.
--- Assumes nothing.
-use mathlib.Core.Path.{_≡_, refl, ap, _∙_}
+-- The counts of the two runs: of picks first, and then of a run as written, which is the run by the picks that it would take.
+use mathlib.Core.Path.{_≡_, sym, ap, _∙_}
 use mathlib.Core.Logic.{_↔_}
-use Prim.Native.Nat.{ℕ, zero, suc, _+_, _-_, _≤_, min}
-use native.Mathlib.Nat.{zero-add, min-le-right}
+use Prim.Native.Nat.{ℕ, _+_, _≤_, min}
 use native.Mathlib.Omega.{arith}
 use mathlib.Core.Bool.{true}
-use mathlib.Core.List.{List, [], _∷_, _++_}
-use lib.ListN.{length, take, drop}
-use lib.Seq.{length-take-le, take-at}
+use mathlib.Core.List.{List}
+use lib.ListN.{length, take}
+use borrow.Author.Tests.{eqb-true, eq-eqb}
 use Rattle.meaning.specs.declared.Drive.{Drive}
-use Rattle.meaning.specs.declared.Record.{Record}
-use Rattle.meaning.specs.Each.{everyOf, sumOf}
-use Rattle.meaning.specs.Walk.{walkOf}
-use Rattle.meaning.specs.Command.{finished, remaining}
-use Rattle.meaning.specs.Step.{Store, stepped}
-use Rattle.meaning.specs.Pick.{State, stateOf}
-use Rattle.meaning.specs.Run.{allFinished, byPicks, atStart, advanced, stepsDone, written}
-use Rattle.meaning.proofs.Rows.{and-true}
-use Rattle.order.specs.States.{stepsLeft}
-use Rattle.order.specs.Steps.{StepsAddUp}
-use Rattle.order.proofs.Commands.{finished-none, none-finished, remaining-stepped}
-use Rattle.order.proofs.Picks.{picks-keep, picks-keep-in, left-step}
-use Rattle.order.proofs.Walk.{walk-is-sound}
+use Rattle.meaning.specs.declared.Ran.{Ran}
+use Rattle.meaning.specs.State.{State}
+use Rattle.meaning.specs.Run.{stepsLeft, allFinished, runNumber, Tally, byPicks, asWritten, ranTo, runReply, RunGives}
+use Rattle.meaning.proofs.Rows.{stop}
+use Rattle.meaning.proofs.Counts as counts
+use Rattle.order.specs.States.{writtenPicks}
+use Rattle.order.specs.Steps.{NoneLeft, ReportsAddUp}
+use Rattle.order.proofs.Picks.{of-picks, every-pick}
+use Rattle.order.proofs.Written.{none-refused}
+use Rattle.order.proofs.Earliest.{written-is-picks}
 
 -- ---- none left
 
-every-none : (rs : List Record) → everyOf finished rs ≡ true → sumOf remaining rs ≡ 0
-every-none [] e = refl
-every-none (r ∷ rs) e =
-    let h = and-true (finished r) (everyOf finished rs) e in
-    omega (arith, finished-none r (h .0), every-none rs (h .1))
-
-none-every : (rs : List Record) → sumOf remaining rs ≡ 0 → everyOf finished rs ≡ true
-none-every [] e = refl
-none-every (r ∷ rs) e = rw (none-finished r (omega arith)) (none-every rs (omega arith))
-
-none-left : (t : List Record) (n : ℕ) → (allFinished t n ≡ true) ↔ (stepsLeft t n ≡ 0)
-unfolding allFinished
-none-left t n = (every-none (take n t), none-every (take n t))
-
--- ---- by picks
-
-pub every-pick : (d : Drive) (n : ℕ) (ps : List ℕ) (s : State) → let y = byPicks d n ps (atStart s) in y .steps + y .refused ≡ length ps
-every-pick d n ps s =
-    picks-keep d n (λ k y. y .steps + y .refused ≡ k) (λ k p y e q. omega arith) (λ k y q. omega arith) ps 0 (atStart s) refl
-    ∙ zero-add (length ps)
-
-pub of-picks : (d : Drive) (n : ℕ) (ps : List ℕ) (s : State) → n ≤ length (s .table)
-    → let y = byPicks d n ps (atStart s) in y .steps + stepsLeft (y .state .table) n ≡ stepsLeft (s .table) n
-of-picks d n ps s l =
-    picks-keep-in d n (λ y. y .steps + stepsLeft (y .state .table) n ≡ stepsLeft (s .table) n)
-    (λ p y m f q. omega (arith, left-step d n p (y .state) m f)) (λ y q. q)
-    ps s l (zero-add (stepsLeft (s .table) n))
+pub none-left : NoneLeft
+none-left t n =
+    let e = counts.none-left t n in
+    (λ f. eqb-true (stepsLeft t n) 0 (sym e ∙ f), λ z. e ∙ eq-eqb (stepsLeft t n) 0 z)
 
 -- picks finish all commands exactly if they take all the steps that remained
-pub finished-picks : (d : Drive) (n : ℕ) (ps : List ℕ) (s : State) → n ≤ length (s .table)
-    → let y = byPicks d n ps (atStart s) in (allFinished (y .state .table) n ≡ true) ↔ (y .steps ≡ stepsLeft (s .table) n)
-finished-picks d n ps s l =
-    let y = byPicks d n ps (atStart s) in
-    let h = of-picks d n ps s l in
+finished-picks : (d : Drive) (n : ℕ) (ps : List ℕ) (s : State)
+    → let y = byPicks d n ps s in (allFinished (y .state .table) n ≡ true) ↔ (y .steps ≡ stepsLeft (s .table) n)
+finished-picks d n ps s =
+    let y = byPicks d n ps s in
+    let h = of-picks d n ps s in
     let z = none-left (y .state .table) n in
     (λ f. omega (arith, z .0 f), λ e. z .1 (omega arith))
 
 -- ---- as written
 
-remaining-advanced : (k : ℕ) (r : Record) → k ≤ remaining r → k + remaining (advanced k r) ≡ remaining r
-unfolding advanced
-remaining-advanced zero r h = zero-add (remaining r)
-remaining-advanced (suc k) r h =
-    let e = remaining-stepped r (omega arith) in
-    omega (arith, remaining-advanced k (stepped r) (omega arith))
+no-refusal : (d : Drive) (n b : ℕ) (s : State) → asWritten d n b s .refused ≡ 0
+unfolding asWritten
+no-refusal d n b s = none-refused d b (take n (s .table)) (s .store)
 
-of-written : (d : Drive) (b : ℕ) (t : List Record) (s : Store)
-    → let w = written d b t s in w .steps + sumOf remaining (w .table) ≡ sumOf remaining t
-unfolding written
-of-written d b [] s = refl
-of-written d b (r ∷ rs) s =
-    let k = min b (remaining r) in
-    omega (arith, remaining-advanced k r (min-le-right b (remaining r)), of-written d (b - k) rs (stepsDone d k r s))
+steps-smaller : (d : Drive) (n b : ℕ) (s : State) → asWritten d n b s .steps ≡ min b (stepsLeft (s .table) n)
+unfolding asWritten stepsLeft
+steps-smaller d n b s = counts.smaller d b (take n (s .table)) (s .store)
 
-pub smaller : (d : Drive) (b : ℕ) (t : List Record) (s : Store) → written d b t s .steps ≡ min b (sumOf remaining t)
-unfolding written
-smaller d b [] s = omega arith
-smaller d b (r ∷ rs) s =
-    let k = min b (remaining r) in
-    omega (arith, smaller d (b - k) rs (stepsDone d k r s))
+pub finished-written : (d : Drive) (n b : ℕ) (s : State) → runNumber d n s ≡ 0
+    → (allFinished (asWritten d n b s .state .table) n ≡ true) ↔ (stepsLeft (s .table) n ≤ b)
+finished-written d n b s e =
+    let z = rw (← written-is-picks d n b s e) at (finished-picks d n (writtenPicks n b (s .table)) s) in
+    let k = steps-smaller d n b s in
+    (λ f. let j = z .0 f in omega arith, λ h. z .1 (omega arith))
 
-pub length-written : (d : Drive) (b : ℕ) (t : List Record) (s : Store) → length (written d b t s .table) ≡ length t
-unfolding written
-length-written d b [] s = refl
-length-written d b (r ∷ rs) s =
-    let k = min b (remaining r) in
-    ap suc (length-written d (b - k) rs (stepsDone d k r s))
+-- ---- what they report
 
--- a run as written finishes all commands exactly if its budget suffices
-pub finished-written : (d : Drive) (n b : ℕ) (t : List Record) (s : Store) → n ≤ length t
-    → let w = written d b (take n t) s in (allFinished (w .table ++ drop n t) n ≡ true) ↔ (stepsLeft t n ≤ b)
-finished-written d n b t s l =
-    let w = written d b (take n t) s in
-    let g = take-at (w .table) (drop n t) n (length-written d b (take n t) s ∙ length-take-le n t l) in
-    let z : (allFinished (w .table ++ drop n t) n ≡ true) ↔ (sumOf remaining (w .table) ≡ 0) = rw g at (none-left (w .table ++ drop n t) n) in
-    let h = of-written d b (take n t) s in
-    let k = smaller d b (take n t) s in
-    (λ f. omega (arith, z .0 f), λ m. z .1 (omega arith))
+-- a run that gives 0 comes to what it says
+module _ (d : Drive) (n : ℕ) (go : State → Tally) (s : State) (r : Ran) (s′ : State) (g : RunGives d n go s r s′) (e : r .number ≡ 0) where
+  pub passed-run-0 : runNumber d n s ≡ 0
+  unfolding RunGives runReply
+  passed-run-0 = sym (ap (λ (x : Ran). x .number) (g .0)) ∙ e
 
-pub steps-add-up : StepsAddUp
-steps-add-up =
+  abbrev y : Tally
+  y = go s
+
+  ran-is : ranTo d n go s ≡ y
+  unfolding ranTo
+  ran-is = stop _ _ _ (eq-eqb _ _ passed-run-0)
+
+  pub reports-steps : r .steps ≡ y .steps
+  unfolding RunGives runReply
+  reports-steps = ap (λ (x : Ran). x .steps) (g .0) ∙ ap (λ (x : Tally). x .steps) ran-is
+
+  pub reports-refused : r .refused ≡ y .refused
+  unfolding RunGives runReply
+  reports-refused = ap (λ (x : Ran). x .refused) (g .0) ∙ ap (λ (x : Tally). x .refused) ran-is
+
+  pub reports-finished : r .finished ≡ allFinished (y .state .table) n
+  unfolding RunGives runReply
+  reports-finished =
+      ap (λ (x : Ran). x .finished) (g .0)
+      ∙ stop _ _ _ (eq-eqb _ _ passed-run-0)
+      ∙ ap (λ (x : Tally). allFinished (x .state .table) n) ran-is
+
+  pub leaves-state : s′ ≡ y .state
+  unfolding RunGives
+  leaves-state = g .1 ∙ ap (λ (x : Tally). x .state) ran-is
+
+pub reports-add-up : ReportsAddUp
+reports-add-up =
     record {
-      everyPick = every-pick;
-      ofPicks = of-picks;
-      ofWritten = of-written;
-      smaller = smaller;
-      noneLeft = none-left;
-      ofChain = λ m i d start t ps e.
-          let h = walk-is-sound m i d start t e in
-          let w = walkOf m i d start t in
-          rw (← h .steps) (finished-picks d (w .commands) ps (stateOf m i (w .table)) (h .inTable));
+      picks = λ d n ps s r s′ g e.
+          rw (reports-steps d n (byPicks d n ps) s r s′ g e, reports-refused d n (byPicks d n ps) s r s′ g e, leaves-state d n (byPicks d n ps) s r s′ g e)
+          (every-pick d n ps s, of-picks d n ps s);
+      finished = λ d n ps s r s′ g e.
+          rw (reports-steps d n (byPicks d n ps) s r s′ g e, reports-finished d n (byPicks d n ps) s r s′ g e) (finished-picks d n ps s);
+      smaller = λ d n b s r s′ g e.
+          rw (reports-steps d n (asWritten d n b) s r s′ g e, reports-refused d n (asWritten d n b) s r s′ g e)
+          (no-refusal d n b s, steps-smaller d n b s);
+      enough = λ d n b s r s′ g e.
+          rw (reports-finished d n (asWritten d n b) s r s′ g e) (finished-written d n b s (passed-run-0 d n (asWritten d n b) s r s′ g e));
     }

@@ -1,32 +1,36 @@
 -- The run as written at its first command: as many steps of it as the budget and what remains of it allow, and then the rest. So a
 -- finished command is passed by, and of an unfinished one a single step may be taken before the same with one step less of budget.
--- Assumes nothing.
 use mathlib.Core.Path.{_≡_, refl, sym, ap, _∙_}
 use Prim.Native.Nat.{ℕ, suc, _+_, _-_, _<_, min}
 use native.Mathlib.Nat.{min-zero, sub-zero, suc-min-suc, suc-sub-suc, suc-add, add-suc}
 use mathlib.Core.Bool.{true}
-use mathlib.Core.List.{List, _∷_}
+use mathlib.Core.List.{List, [], _∷_}
 use Rattle.meaning.specs.declared.Drive.{Drive}
 use Rattle.meaning.specs.declared.Record.{Record}
+use Rattle.meaning.specs.Store.{Store}
+use Rattle.meaning.specs.State.{State}
 use Rattle.meaning.specs.Command.{finished, remaining}
-use Rattle.meaning.specs.Step.{Store, step, stepped}
-use Rattle.meaning.specs.Run.{advanced, stepsDone, Written, written}
-use Rattle.order.proofs.Commands.{finished-none, remaining-stepped}
+use Rattle.meaning.specs.Step.{step, stepped}
+use Rattle.meaning.specs.Run.{advanced, stepsDone, Tally, written}
+use Rattle.meaning.proofs.Records.{finished-none, remaining-stepped}
 
--- k steps of the command r, before what w has come to
-abbrev pub front : ℕ → Record → Written → Written
-front k r w = record { steps = k + w .steps; table = advanced k r ∷ w .table; store = w .store }
+-- k steps of the command r, ahead of what y has come to
+abbrev pub ahead : ℕ → Record → State → State
+ahead k r s = record { table = advanced k r ∷ s .table; store = s .store }
 
--- one step more than w reports
-abbrev pub oneMore : Written → Written
-oneMore w = record { steps = suc (w .steps); table = w .table; store = w .store }
+abbrev pub front : ℕ → Record → Tally → Tally
+front k r y = record { steps = k + y .steps; refused = y .refused; state = ahead k r (y .state) }
 
-front-suc : (k : ℕ) (r : Record) (w : Written) → front (suc k) r w ≡ oneMore (front k (stepped r) w)
+-- one step more than y counts
+abbrev pub oneMore : Tally → Tally
+oneMore y = record { steps = suc (y .steps); refused = y .refused; state = y .state }
+
+front-suc : (k : ℕ) (r : Record) (y : Tally) → front (suc k) r y ≡ oneMore (front k (stepped r) y)
 unfolding advanced
-front-suc k r w = λ i. record { steps = suc-add k (w .steps) i; table = advanced k (stepped r) ∷ w .table; store = w .store }
+front-suc k r y = λ i. record { steps = suc-add k (y .steps) i; refused = y .refused; state = ahead k (stepped r) (y .state) }
 
-pub front-one-more : (k : ℕ) (r : Record) (w : Written) → front k r (oneMore w) ≡ oneMore (front k r w)
-front-one-more k r w = λ i. record { steps = add-suc k (w .steps) i; table = advanced k r ∷ w .table; store = w .store }
+pub front-one-more : (k : ℕ) (r : Record) (y : Tally) → front k r (oneMore y) ≡ oneMore (front k r y)
+front-one-more k r y = λ i. record { steps = add-suc k (y .steps) i; refused = y .refused; state = ahead k r (y .state) }
 
 module _ (d : Drive) (b : ℕ) (r : Record) (rs : List Record) (s : Store) where
   pub written-cons : (k : ℕ) → min b (remaining r) ≡ k → written d b (r ∷ rs) s ≡ front k r (written d (b - k) rs (stepsDone d k r s))
@@ -49,3 +53,9 @@ written-unfinished d b r rs s h =
     ∙ ap (λ (j : ℕ). front (suc k) r (written d j rs u)) (suc-sub-suc b k)
     ∙ front-suc k r (written d (b - k) rs u)
     ∙ sym (ap oneMore (written-cons d b (stepped r) rs (step d r s) k refl))
+
+-- no pick is refused
+pub none-refused : (d : Drive) (b : ℕ) (t : List Record) (s : Store) → written d b t s .refused ≡ 0
+unfolding written
+none-refused d b [] s = refl
+none-refused d b (r ∷ rs) s = let k = min b (remaining r) in none-refused d (b - k) rs (stepsDone d k r s)

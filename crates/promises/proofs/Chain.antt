@@ -1,8 +1,8 @@
--- What a chain comes to, from IOPB to IOPB: `follow` gives the verdict of the first IOPB where a case of document 01 holds, and has
--- laid up the records of those before it. Assumes nothing.
+-- What a chain comes to, from IOPB to IOPB: `follow` gives the verdict of the first IOPB where a case of the walk's table holds, and has
+-- laid up the records of those before it.
 use mathlib.Core.Path.{_≡_, refl, sym, _∙_, ap}
 use mathlib.Core.Logic.{_≢_, _⊎_, inl, inr, ⊎-elim}
-use Prim.Native.Nat.{ℕ, zero, suc, _+_, _%_, _<_, max}
+use Prim.Native.Nat.{ℕ, zero, suc, _+_, _%_, _<_}
 use native.Mathlib.Nat.{not-suc-le-zero, le-of-suc-le-suc, eq-or-lt-of-le}
 use native.Mathlib.Omega.{arith}
 use mathlib.Core.Bool.{Bool, true, false, not, _||_, cond, or-assoc, or-false, Bool·not-not}
@@ -14,21 +14,13 @@ use Rattle.meaning.specs.declared.Record.{Record}
 use Rattle.meaning.specs.Each.{someOf}
 use Rattle.meaning.specs.Fields.{iopbBytes, allIn, chen, next-address}
 use Rattle.meaning.specs.Code.{copiedAt, odd}
-use Rattle.meaning.specs.Walk.{mostCommands, recordOf, shares, goesOn, Chain, refused, accepted, follow}
-use Rattle.promises.specs.Table.{Given, NoneOf}
-use Rattle.promises.specs.Conditions.{Within}
+use Rattle.meaning.specs.State.{mostCommands}
+use Rattle.meaning.specs.Walk.{recordOf, shares, goesOn, Chain, refused, accepted, follow}
+use Rattle.meaning.specs.Table.{Given, NoneOf}
+use Rattle.meaning.specs.Conditions.{Shares}
+use Rattle.meaning.proofs.Means.{Means, holds, fails, when-true, when-false, means-iff, means-or, means-not-and, means-above, means-eq, means-other}
+use Rattle.meaning.proofs.Ranges.{means-shares}
 use Rattle.promises.specs.WalkNumbers.{reached, OutOfMemory, SharesEarlier, Ends, atIopb, Comes, InTurn}
-use Rattle.promises.proofs.Means.{Means, holds, fails, when-true, when-false, means-iff, means-and, means-or, means-not-and, means-above, means-lt, means-eq, means-other}
-
--- two IOPBs share a byte
-means-shares : (a b : ℕ) → Means ((x : ℕ) × Within x a iopbBytes × Within x b iopbBytes) (shares a b)
-means-shares a b = means-iff (there, back) (means-and (means-lt a (b + iopbBytes)) (means-lt b (a + iopbBytes)))
-  where
-    there : (a < b + iopbBytes) × (b < a + iopbBytes) → (x : ℕ) × Within x a iopbBytes × Within x b iopbBytes
-    there h = (max a b, (omega arith, omega arith), (omega arith, omega arith))
-
-    back : (x : ℕ) × Within x a iopbBytes × Within x b iopbBytes → (a < b + iopbBytes) × (b < a + iopbBytes)
-    back h = omega arith
 
 -- what holds below k and at k holds up to k
 pub up-to : (P : ℕ → Type 0) {k : ℕ} → ((j : ℕ) → j < k → P j) → P k → (j : ℕ) → j < suc k → P j
@@ -70,7 +62,7 @@ module _ (m : List ℕ) (d : Drive) (start : ℕ) where
       → Means (SharesEarlier m start k) (someOf (λ r. shares (r .iopb) (reached m start k)) (commandsTo k))
   unfolding recordOf
   means-shares-earlier k =
-      means-earlier (λ j. (x : ℕ) × Within x (reached m start j) iopbBytes × Within x (reached m start k) iopbBytes)
+      means-earlier (λ j. Shares (reached m start j) (reached m start k))
       (λ r. shares (r .iopb) (reached m start k))
       (λ j. means-shares (reached m start j) (reached m start k))
       k
@@ -86,7 +78,7 @@ module _ (m : List ℕ) (d : Drive) (start : ℕ) where
   abbrev pub Verdict : Chain → Type 0
   Verdict (refused N) = (N ≢ 0) × InTurn m start N
   Verdict (accepted rs) =
-      (k : ℕ) × (k < mostCommands) × (Comes m start k × Given (atIopb m start k) 0) × (rs ≡ commandsTo (suc k))
+      (k : ℕ) × (Comes m start k × Given (atIopb m start k) 0) × (rs ≡ commandsTo (suc k))
 
   -- the k-th IOPB gives the verdict, or the rest of the chain does
   at-verdict : (k : ℕ) {a b : Bool} (g : Bool) (rest : Chain)
@@ -100,7 +92,7 @@ module _ (m : List ℕ) (d : Drive) (start : ℕ) where
   at-verdict k g rest (holds o) y z l c on = (omega arith, (k, c, (omega arith, o)))
   at-verdict k g rest (fails n) (holds s) z l c on = (omega arith, (k, c, (omega arith, (n, s))))
   at-verdict k true rest (fails n) (fails p) z l c on = on (omega arith, (n, (p, (when-false z refl, tt))))
-  at-verdict k false rest (fails n) (fails p) z l c on = (k, l, (c, (omega arith, (n, (p, when-true z refl)))), refl)
+  at-verdict k false rest (fails n) (fails p) z l c on = (k, (c, (omega arith, (n, (p, when-true z refl)))), refl)
 
   follow-verdict : (left k : ℕ)
       → k + left ≡ mostCommands

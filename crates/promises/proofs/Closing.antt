@@ -1,4 +1,4 @@
--- The four bytes of a close, bit by bit: byte 0 is the copied byte 0 with bits 7 and 6 made anew. Assumes nothing.
+-- The four bytes of a close, bit by bit: byte 0 is the copied byte 0 with bits 7 and 6 made anew.
 use mathlib.Core.Path.{_≡_, refl, _∙_}
 use mathlib.Core.Logic.{_↔_, _≢_}
 use Prim.Native.Nat.{ℕ, zero, suc, _+_, _*_, _%_, _<_}
@@ -9,9 +9,10 @@ use lib.Dec.{eqb}
 use Rattle.meaning.specs.declared.Drive.{Drive}
 use Rattle.meaning.specs.declared.Record.{Record}
 use Rattle.meaning.specs.Fields.{bit}
+use Rattle.meaning.specs.Store.{memory}
 use Rattle.meaning.specs.Step.{closingByte0, closing, step}
+use Rattle.meaning.proofs.Means.{Means, holds, fails, means-eq}
 use Rattle.promises.specs.Closing.{StatusBytes, ClosingBytes}
-use Rattle.promises.proofs.Means.{Means, holds, fails, means-eq}
 use Rattle.promises.proofs.StepMoves.{step-moves-one}
 
 -- bits 5 to 0 of b, 1 and e
@@ -89,4 +90,4 @@ module _ (d : Drive) (r : Record) (byte : ℕ → ℕ) (same : (j : ℕ) → j <
       }
 
 pub closing-bytes : ClosingBytes
-closing-bytes d r s may last = status-bytes d r (λ j. getD (step d r s .memory) (r .iopb + j) 0) (step-moves-one d r s may .posted last)
+closing-bytes d r s may last = status-bytes d r (λ j. getD (step d r s memory) (r .iopb + j) 0) (step-moves-one d r s may .posted last)

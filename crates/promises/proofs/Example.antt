@@ -1,18 +1,19 @@
--- The example of `specs/Example.antt` computes. Assumes nothing.
+-- The example of `specs/Example.antt` computes.
 use mathlib.Core.Path.{refl}
 use Rattle.meaning.specs.Fields.{byteOf}
 use Rattle.meaning.specs.Sectors.{sectorCount, sectorNumber, imageRight}
 use Rattle.meaning.specs.Sizes.{sizesWrong}
 use Rattle.meaning.specs.Code.{copiedAt, codeOf}
-use Rattle.meaning.specs.Walk.{recordOf, walkOf}
+use Rattle.meaning.specs.Walk.{recordOf, walkReply, walkLeaves}
 use Rattle.meaning.specs.Command.{stepsOf, finished}
+use Rattle.meaning.specs.Ranges.{crosses}
 use Rattle.meaning.specs.Touch.{conflict}
-use Rattle.meaning.specs.Run.{picksReply, picksLeave}
+use Rattle.meaning.specs.Run.{byPicks, ranTo, runReply}
 use Rattle.meaning.specs.Deck.{benchDrive, benchMemory, benchImage}
 use Rattle.promises.specs.Example.{Speaks}
 
 pub speaks : Speaks
-unfolding byteOf copiedAt codeOf recordOf walkOf sizesWrong imageRight sectorCount sectorNumber benchMemory benchImage benchDrive stepsOf finished conflict picksReply picksLeave
+unfolding byteOf copiedAt codeOf recordOf walkReply walkLeaves sizesWrong imageRight sectorCount sectorNumber benchMemory benchImage benchDrive stepsOf finished conflict runReply ranTo byPicks crosses
 speaks =
     record {
       accepted = refl;

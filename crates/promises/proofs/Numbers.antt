@@ -1,50 +1,84 @@
--- The numbers of picks and of runs, and the codes, are given exactly when document 01 says: the one law of tables, applied to each.
--- Assumes nothing.
+-- The numbers of picks, runs, looks and viewers, and the codes, are given exactly when their tables say: the one law of tables, applied to
+-- each.
 use mathlib.Core.Path.{_≡_}
 use mathlib.Core.Logic.{_↔_}
-use Prim.Native.Nat.{ℕ, _+_, _*_, _%_}
+use Prim.Native.Nat.{ℕ, _+_, _*_, _%_, _≤_}
+use native.Mathlib.Omega.{arith}
 use mathlib.Core.List.{List}
-use lib.ListN.{getD}
+use lib.ListN.{length, getD}
+use lib.Dec.{ltb}
 use Rattle.meaning.specs.declared.Drive.{Drive}
-use Rattle.meaning.specs.declared.Record.{Record}
 use Rattle.meaning.specs.declared.Copied.{Copied}
-use Rattle.meaning.specs.Sectors.{sectorBytes, sectorCount}
-use Rattle.meaning.specs.Fields.{bit}
+use Rattle.meaning.specs.Store.{Store, theUnit}
+use Rattle.meaning.specs.State.{State}
+use Rattle.meaning.specs.Sectors.{sectorBytes, sectorCount, largestSector}
+use Rattle.meaning.specs.Fields.{iopbBytes, bit}
+use Rattle.meaning.specs.Look.{lookNumber}
+use Rattle.meaning.specs.View.{madeNumber, viewOf}
 use Rattle.meaning.specs.Code.{nop, write, read, commandIn, firstSector, codeOf}
 use Rattle.meaning.specs.Command.{noRecord}
-use Rattle.meaning.specs.Pick.{pickNumber, PickGives}
-use Rattle.meaning.specs.Run.{runNumber, PicksGive, WrittenGives}
-use Rattle.promises.specs.Table.{Given}
-use Rattle.promises.specs.PickNumbers.{pickTable, runTable, PickExactlyWhen, RunByPicksExactlyWhen, RunAsWrittenExactlyWhen}
+use Rattle.meaning.specs.Pick.{placeNumber, pickNumber, PickGives}
+use Rattle.meaning.specs.Run.{runNumber, runReply, RunGives}
+use Rattle.meaning.specs.Table.{Given}
+use Rattle.meaning.proofs.Means.{Means, when-true, is-true, means-iff, means-itself, means-and, means-or₃, means-lt, means-le, means-above, means-eq, means-other}
+use Rattle.meaning.proofs.Table.{otherwise, _&_, by-number, by-place}
+use Rattle.meaning.proofs.Conditions.{some-sector, means-image, means-sizes, means-finished, means-spoiled}
+use Rattle.meaning.proofs.Conflict.{means-conflict, means-waits}
+use Rattle.promises.specs.PickNumbers.{pickTable, runTable, PickExactlyWhen, RunExactlyWhen, ConflictExactlyWhen}
+use Rattle.promises.specs.Looks.{LookExactlyWhen}
+use Rattle.promises.specs.Views.{viewTable, ViewExactlyWhen}
 use Rattle.promises.specs.Codes.{CodeExactlyWhen}
-use Rattle.promises.proofs.Means.{means-itself, means-and, means-or₃, means-lt, means-le, means-eq, means-other}
-use Rattle.promises.proofs.Table.{otherwise, _&_, by-number, by-place}
-use Rattle.promises.proofs.Conditions.{means-sizes, means-finished, means-spoiled}
-use Rattle.promises.proofs.Conflict.{means-waits}
 
-module _ (m i : List ℕ) (d : Drive) (t : List Record) (n : ℕ) where
-  pub pick-number-exactly-when : (p N : ℕ) → (pickNumber m i d t n p ≡ N) ↔ Given (pickTable m i d t n p) N
-  unfolding pickNumber
-  pick-number-exactly-when p =
+-- ---- picks and runs
+
+module _ (d : Drive) (n : ℕ) where
+  pub pick-number-exactly-when : (p : ℕ) (s : State) (N : ℕ) → (pickNumber d n p s ≡ N) ↔ Given (pickTable d n p s) N
+  unfolding pickNumber placeNumber
+  pick-number-exactly-when p s =
       by-number
-      (means-sizes m i d & means-spoiled m d t n & means-le n p & means-finished (getD t p noRecord) & means-waits t p & otherwise)
+      (means-sizes d s
+      & means-spoiled d n s
+      & means-le n p
+      & means-finished (getD (s .table) p noRecord)
+      & means-waits (s .table) p
+      & otherwise)
       tt
 
-  pub run-number-exactly-when : (N : ℕ) → (runNumber m i d t n ≡ N) ↔ Given (runTable m i d t n) N
+  pub run-number-exactly-when : (s : State) (N : ℕ) → (runNumber d n s ≡ N) ↔ Given (runTable d n s) N
   unfolding runNumber
-  run-number-exactly-when = by-number (means-sizes m i d & means-spoiled m d t n & otherwise) tt
+  run-number-exactly-when s = by-number (means-sizes d s & means-spoiled d n s & otherwise) tt
 
 pub pick-exactly-when : (N : ℕ) → PickExactlyWhen N
 unfolding PickGives
-pick-exactly-when N m i d t n p r m′ i′ g = rw (g .0) (pick-number-exactly-when m i d t n p N)
+pick-exactly-when N d n p s k s′ g = rw (g .0) (pick-number-exactly-when d n p s N)
 
-pub run-by-picks-exactly-when : (N : ℕ) → RunByPicksExactlyWhen N
-unfolding PicksGive
-run-by-picks-exactly-when N m i d t n ps r m′ i′ g = rw (g .0) (run-number-exactly-when m i d t n N)
+pub run-exactly-when : (N : ℕ) → RunExactlyWhen N
+unfolding RunGives runReply
+run-exactly-when N d n go s r s′ g = rw (g .0) (run-number-exactly-when d n s N)
 
-pub run-as-written-exactly-when : (N : ℕ) → RunAsWrittenExactlyWhen N
-unfolding WrittenGives
-run-as-written-exactly-when N m i d t n b r m′ i′ g = rw (g .0) (run-number-exactly-when m i d t n N)
+pub conflict-exactly-when : ConflictExactlyWhen
+conflict-exactly-when r s = (when-true (means-conflict r s), is-true (means-conflict r s))
+
+-- ---- looks and viewers
+
+-- a largest sector number is one less than the number of sectors, of which there is one at least
+no-such-sector : (d : Drive) (n : ℕ) → Means (sectorCount d ≤ n) (ltb (largestSector d) n)
+unfolding largestSector
+no-such-sector d n = let z = some-sector d in means-iff (omega arith) (means-lt (largestSector d) n)
+
+pub look-exactly-when : (d : Drive) (n : ℕ) (s : Store) (N : ℕ) → LookExactlyWhen d n s N
+unfolding lookNumber
+look-exactly-when d n s = by-number (means-image d s & no-such-sector d n & otherwise) tt
+
+view-number-exactly-when : (m : List ℕ) (a N : ℕ) → (madeNumber m a ≡ N) ↔ Given (viewTable m a) N
+unfolding madeNumber
+view-number-exactly-when m a = by-number (means-eq (a % 2) 1 & means-above (a + iopbBytes) (length m) & otherwise) tt
+
+pub view-exactly-when : (m : List ℕ) (a N : ℕ) → ViewExactlyWhen m a N
+unfolding viewOf
+view-exactly-when m a N = (view-number-exactly-when m a N, λ v e. rw e (view-number-exactly-when m a N))
+
+-- ---- codes
 
 pub code-exactly-when : (c : Copied) (d : Drive) (n code : ℕ) → CodeExactlyWhen c d n code
 unfolding codeOf
@@ -53,7 +87,7 @@ code-exactly-when c d n =
     (means-and (means-eq (bit 5 (c .byte0)) 1) (means-eq (c .next % 2) 1)
     & means-or₃ (means-lt read (commandIn (c .byte0))) (means-eq (bit 4 (c .byte0)) 1) (means-other (c .subfunction) 0)
     & means-eq (commandIn (c .byte0)) nop
-    & means-other (c .unit) 0
+    & means-other (c .unit) theUnit
     & means-eq (c .count) 0
     & means-lt (d .cylinder) (c .cylinder)
     & means-lt (d .head) (c .head)

@@ -1,27 +1,82 @@
--- A contract that is an equation, or three of them, is met by one reply: the one that it names. Assumes nothing.
-use mathlib.Core.Path.{_≡_, refl}
-use Rattle.meaning.specs.Look.{lookNumber, lookPart}
-use Rattle.meaning.specs.Walk.{walkOf}
-use Rattle.meaning.specs.Pick.{PickGives}
-use Rattle.meaning.specs.Run.{PicksGive, WrittenGives}
-use Rattle.promises.specs.OneReply.{OneReply, EachHasOneReply}
+-- A contract is an equation, or two: what it names is the one reply that meets it. Where memory and image are lent, the two and the table
+-- make up the whole state afterwards, since no call changes the length of a space.
+use mathlib.Core.Path.{_≡_, refl, _∙_}
+use Prim.Native.Nat.{ℕ}
+use mathlib.Core.Bool.{Bool, true, false, cond}
+use mathlib.Core.List.{List, [], _∷_}
+use lib.ListN.{length}
+use lib.Dec.{eqb}
+use Rattle.meaning.specs.declared.Drive.{Drive}
+use Rattle.meaning.specs.declared.Record.{Record}
+use Rattle.meaning.specs.OneReply.{OneReply}
+use Rattle.meaning.specs.Store.{memory, theDisk, lent}
+use Rattle.meaning.specs.State.{State, stateOf}
+use Rattle.meaning.specs.Look.{lookNumber, lookPart, lookedPart}
+use Rattle.meaning.specs.View.{madeNumber, viewOf}
+use Rattle.meaning.specs.Walk.{WalkGives}
+use Rattle.meaning.specs.Pick.{pickNumber, stepAt, picked, PickGives}
+use Rattle.meaning.specs.Run.{chainSteps, byPicks, asWritten, ranTo, runReply, RunGives}
+use Rattle.meaning.proofs.OneReply.{one-equation, two-equations}
+use Rattle.meaning.proofs.Spaces.{AsLong}
+use Rattle.meaning.proofs.Still.{step-keeps-lengths}
+use Rattle.meaning.proofs.Lent.{state-again}
+use Rattle.promises.specs.PickMoves.{commandAt}
+use Rattle.promises.specs.Taken.{stepsAt, BySteps}
+use Rattle.promises.specs.OneReply.{EachHasOneReply}
+use Rattle.promises.proofs.Taken.{run-by-picks-takes-steps}
+use Rattle.promises.proofs.AsWritten.{run-as-written-takes-steps}
 
-pub one-equation : {A : Type 0} (a : A) → OneReply (λ (x : A). x ≡ a)
-one-equation a = (a, refl, λ x e. e)
+-- ---- no call changes the length of a space
 
-pub three-equations : {A B C : Type 0} (a : A) (b : B) (c : C)
-    → OneReply (λ (x : A × B × C). (x .0 ≡ a) × (x .1 ≡ b) × (x .2 ≡ c))
-three-equations a b c = ((a, b, c), (refl, refl, refl), λ x e i. (e .0 i, e .1 i, e .2 i))
+step-long : (d : Drive) (p : ℕ) (s : State) → AsLong (stepAt d p s .store) (s .store)
+unfolding stepAt
+step-long d p s = step-keeps-lengths d (commandAt s p) (s .store)
+
+steps-long : (d : Drive) (ps : List ℕ) (s : State) → AsLong (stepsAt d ps s .store) (s .store)
+steps-long d [] s q = refl
+steps-long d (p ∷ ps) s q = steps-long d ps (stepAt d p s) q ∙ step-long d p s q
+
+picked-long : (d : Drive) (n p : ℕ) (s : State) → AsLong (picked d n p s .store) (s .store)
+unfolding picked
+picked-long d n p s q = go (eqb (pickNumber d n p s) 0)
+  where
+    go : (b : Bool) → length (cond b (stepAt d p s) s .store q) ≡ length (s .store q)
+    go true = step-long d p s q
+    go false = refl
+
+by-steps-long : {d : Drive} {n : ℕ} {s s′ : State} {k : ℕ} → BySteps d n s s′ k → AsLong (s′ .store) (s .store)
+by-steps-long {d} {s} y q = rw (y .taken .leave) (steps-long d (y .places) s q)
+
+-- ---- what is lent
+
+one-outcome : {A : Type 0} (a : A) (m i : List ℕ) (u : State)
+    → AsLong (u .store) (lent m i)
+    → OneReply (λ (x : A × List ℕ × List ℕ × List Record). (x .0 ≡ a) × (stateOf (x .1) (x .2) (x .3) ≡ u))
+one-outcome a m i u h = (
+  (a, u .store memory, u .store theDisk, u .table),
+  (refl, state-again m i u h),
+  λ x e j. (e .0 j, e .1 j .store memory, e .1 j .store theDisk, e .1 j .table),
+)
 
 pub each-has-one-reply : EachHasOneReply
-unfolding PickGives PicksGive WrittenGives
+unfolding WalkGives PickGives RunGives
 each-has-one-reply =
     record {
       plain = one-equation;
-      pick = λ m i d t n p. three-equations _ _ _;
-      run-by-picks = λ m i d t n ps. three-equations _ _ _;
-      run-as-written = λ m i d t n b. three-equations _ _ _;
-      walk = λ m i d start t. one-equation (walkOf m i d start t);
-      look = λ i d s. one-equation (lookPart i d s);
-      look-number = λ i d s. one-equation (lookNumber i d s);
+      walk = λ d start s. two-equations _ _;
+      pick = λ d n p m i t. one-outcome _ m i (picked d n p (stateOf m i t)) (picked-long d n p (stateOf m i t));
+      run-by-picks = λ d n ps m i t.
+          let s = stateOf m i t in
+          one-outcome _ m i _ (by-steps-long (run-by-picks-takes-steps d n ps s (runReply d n (byPicks d n ps) s) (ranTo d n (byPicks d n ps) s .state) (refl, refl) .0));
+      run-as-written = λ d n b m i t.
+          let s = stateOf m i t in
+          one-outcome _ m i _ (by-steps-long (run-as-written-takes-steps d n b s (runReply d n (asWritten d n b) s) (ranTo d n (asWritten d n b) s .state) (refl, refl) .0));
+      pick-of-state = λ d n p s. two-equations _ _;
+      run-of-state = λ d n go s. two-equations _ _;
+      chain-steps = λ t n. one-equation (chainSteps t n);
+      look = λ d n s. one-equation (lookPart d n s);
+      looked-part = λ d n s. one-equation (lookedPart d n s);
+      look-number = λ d n s. one-equation (lookNumber d n s);
+      view = λ m a. one-equation (viewOf m a);
+      view-number = λ m a. one-equation (madeNumber m a);
     }

@@ -1,12 +1,11 @@
--- Demands 1 and 2 as statements about document 01's definitions. Each file is proved in the file of its name in proofs/; but
--- WalkNumbers in Walk and WalkFills, PickNumbers in Numbers, Conflict and Look, and Codes in Numbers.
--- how a table of 01 is read, and its conditions in words
-pub mod Table
-pub mod Conditions
--- demand 1: every number exactly when 01 says, nothing changed on a refusal, one reply
+-- Demands 1 and 2 as statements about the definitions of `meaning`. Each file is proved in the file of its name in proofs/; but WalkNumbers
+-- in Walk and WalkFills, all other numbers and the codes in Numbers, and the run as written of Taken in AsWritten.
+-- demand 1: every number exactly when the rules say, nothing changed on a refusal, one reply
 pub mod WalkNumbers
 pub mod PickNumbers
 pub mod EachNumber
+pub mod Looks
+pub mod Views
 pub mod Codes
 pub mod Refused
 pub mod OneReply
@@ -14,6 +13,6 @@ pub mod OneReply
 pub mod StepMoves
 pub mod Closing
 pub mod PickMoves
-pub mod RunSteps
+pub mod Taken
 pub mod WrittenThenRead
 pub mod Example

@@ -1,17 +1,18 @@
--- "one step taken": what an accepted pick does, to memory and image and to the table. Demand 2. m and i are memory and image before the
--- pick, m′ and i′ after, t is the table and r what the pick gives. Assumes nothing.
+-- What an accepted pick does: one step, to memory and image and to the table (Pick 7, Demand 2). s is the state before the pick, s′ after.
 use mathlib.Core.Path.{_≡_}
 use mathlib.Core.Logic.{_≢_}
-use Prim.Native.Nat.{ℕ, _+_, _≤_}
-use mathlib.Core.List.{List}
+use Prim.Native.Nat.{ℕ, _+_}
 use lib.ListN.{length, getD}
 use Rattle.meaning.specs.declared.Drive.{Drive}
 use Rattle.meaning.specs.declared.Record.{Record}
-use Rattle.meaning.specs.declared.Picked.{Picked}
-use Rattle.meaning.specs.Walk.{mostCommands}
+use Rattle.meaning.specs.State.{State}
 use Rattle.meaning.specs.Command.{noRecord}
 use Rattle.meaning.specs.Pick.{PickGives}
 use Rattle.promises.specs.StepMoves.{Moved}
+
+-- the record at a place
+abbrev pub commandAt : State → ℕ → Record
+commandAt s p = getD (s .table) p noRecord
 
 -- r′ is r with one step more taken
 pub record OneStepMore (r r′ : Record) : Type 0 where
@@ -23,18 +24,16 @@ pub record OneStepMore (r r′ : Record) : Type 0 where
   pub byte0 : r′ .byte0 ≡ r .byte0
   pub code : r′ .code ≡ r .code
 
--- what an accepted pick at place p does: such a step there, and the table stays but for the steps taken of that record
-pub record PickMoves (m i : List ℕ) (d : Drive) (t : List Record) (p : ℕ) (r : Picked) (m′ i′ : List ℕ) : Type 0 where
-  pub moved : Moved d (getD t p noRecord) (record { memory = m; image = i }) (record { memory = m′; image = i′ })
-  pub here : OneStepMore (getD t p noRecord) (getD (r .table) p noRecord)
-  pub others : (q : ℕ) → q ≢ p → getD (r .table) q noRecord ≡ getD t q noRecord
-  pub size : length (r .table) ≡ length t
+-- such a step at place p, and the table stays but for the steps taken of that record
+pub record PickMoves (d : Drive) (p : ℕ) (s s′ : State) : Type 0 where
+  pub moved : Moved d (commandAt s p) (s .store) (s′ .store)
+  pub here : OneStepMore (commandAt s p) (commandAt s′ p)
+  pub others : (q : ℕ) → q ≢ p → commandAt s′ q ≡ commandAt s q
+  pub size : length (s′ .table) ≡ length (s .table)
 
--- the table has its 32 records
 abbrev pub AcceptedPickMovesOne : Type 0
 AcceptedPickMovesOne =
-    (m i : List ℕ) (d : Drive) (t : List Record) (n p : ℕ) (r : Picked) (m′ i′ : List ℕ)
-    → PickGives m i d t n p r m′ i′
-    → r .number ≡ 0
-    → mostCommands ≤ length t
-    → PickMoves m i d t p r m′ i′
+    (d : Drive) (n p : ℕ) (s : State) (k : ℕ) (s′ : State)
+    → PickGives d n p s k s′
+    → k ≡ 0
+    → PickMoves d p s s′

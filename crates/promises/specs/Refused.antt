@@ -1,5 +1,5 @@
--- "what is refused is refused by its number .. and changes no byte of memory, image or table": demand 1, for the walk, the pick and both
--- runs. What each gives is taken by its contract. m and i are memory and image before, m′ and i′ after. Assumes nothing.
+-- What is refused changes no byte of memory, image or table (Demand 1): of the walk, of a pick and of either run.
+-- What each gives is taken by its contract; s is the state before, s′ after.
 use mathlib.Core.Path.{_≡_}
 use mathlib.Core.Logic.{_≢_}
 use Prim.Native.Nat.{ℕ}
@@ -8,30 +8,28 @@ use mathlib.Core.List.{List}
 use Rattle.meaning.specs.declared.Drive.{Drive}
 use Rattle.meaning.specs.declared.Record.{Record}
 use Rattle.meaning.specs.declared.Walked.{Walked}
-use Rattle.meaning.specs.declared.Picked.{Picked}
-use Rattle.meaning.specs.declared.RanPicks.{RanPicks}
-use Rattle.meaning.specs.declared.RanWritten.{RanWritten}
-use Rattle.meaning.specs.Walk.{walkOf}
+use Rattle.meaning.specs.declared.Ran.{Ran}
+use Rattle.meaning.specs.State.{State}
+use Rattle.meaning.specs.Walk.{WalkGives}
 use Rattle.meaning.specs.Pick.{PickGives}
-use Rattle.meaning.specs.Run.{PicksGive, WrittenGives}
+use Rattle.meaning.specs.Run.{Tally, RunGives}
+
+-- a refused run takes no step, counts no pick and is not finished (Run 8)
+pub record NothingDone (s : State) (r : Ran) (s′ : State) : Type 0 where
+  pub unchanged : s′ ≡ s
+  pub steps : r .steps ≡ 0
+  pub refused : r .refused ≡ 0
+  pub finished : r .finished ≡ false
 
 pub record RefusedChangesNothing : Type 0 where
-  -- memory and image are lent to the walk for reading only; the number of commands is "0 on a refusal"
-  pub walk : (m i : List ℕ) (d : Drive) (start : ℕ) (t : List Record) (w : Walked)
-      → w ≡ walkOf m i d start t
+  -- memory and image are lent to the walk for reading only; the number of commands is 0
+  pub walk : (d : Drive) (start : ℕ) (s : State) (w : Walked) (t′ : List Record)
+      → WalkGives d start s w t′
       → w .number ≢ 0
-      → (w .table ≡ t) × (w .commands ≡ 0)
-  -- "nothing changed"
-  pub pick : (m i : List ℕ) (d : Drive) (t : List Record) (n p : ℕ) (r : Picked) (m′ i′ : List ℕ)
-      → PickGives m i d t n p r m′ i′
+      → (t′ ≡ s .table) × (w .commands ≡ 0)
+  pub pick : (d : Drive) (n p : ℕ) (s : State) (k : ℕ) (s′ : State) → PickGives d n p s k s′ → k ≢ 0 → s′ ≡ s
+  -- either run: `go` is what it would come to
+  pub run : (d : Drive) (n : ℕ) (go : State → Tally) (s : State) (r : Ran) (s′ : State)
+      → RunGives d n go s r s′
       → r .number ≢ 0
-      → (r .table ≡ t) × (m′ ≡ m) × (i′ ≡ i)
-  -- "they then give that number, zero counts and «not finished», and change nothing"
-  pub run-by-picks : (m i : List ℕ) (d : Drive) (t : List Record) (n : ℕ) (ps : List ℕ) (r : RanPicks) (m′ i′ : List ℕ)
-      → PicksGive m i d t n ps r m′ i′
-      → r .number ≢ 0
-      → ((r .table ≡ t) × (m′ ≡ m) × (i′ ≡ i)) × (r .steps ≡ 0) × (r .refused ≡ 0) × (r .finished ≡ false)
-  pub run-as-written : (m i : List ℕ) (d : Drive) (t : List Record) (n b : ℕ) (r : RanWritten) (m′ i′ : List ℕ)
-      → WrittenGives m i d t n b r m′ i′
-      → r .number ≢ 0
-      → ((r .table ≡ t) × (m′ ≡ m) × (i′ ≡ i)) × (r .steps ≡ 0) × (r .finished ≡ false)
+      → NothingDone s r s′

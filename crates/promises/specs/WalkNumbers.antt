@@ -1,5 +1,5 @@
--- "Walking the chain": for each number of the walk's table in document 01, exactly when it is given, and what an accepted chain
--- leaves in the table. m is memory, i the image, d the drive, t the table, w what the walk gives. Assumes nothing.
+-- The walk: for each of its numbers exactly when it is given (Walk 4 to 10), and what an accepted chain leaves in the table (Record 4, 7).
+-- d is the drive, s the state before the walk, w what it answers and t′ the table after it.
 use mathlib.Core.Path.{_≡_}
 use mathlib.Core.Logic.{_↔_, _≢_, _⊎_}
 use Prim.Native.Nat.{ℕ, zero, suc, _+_, _≤_, _<_}
@@ -8,33 +8,35 @@ use lib.ListN.{length, getD}
 use Rattle.meaning.specs.declared.Drive.{Drive}
 use Rattle.meaning.specs.declared.Record.{Record}
 use Rattle.meaning.specs.declared.Walked.{Walked}
+use Rattle.meaning.specs.Store.{memory}
+use Rattle.meaning.specs.State.{State, mostCommands}
 use Rattle.meaning.specs.Fields.{iopbBytes, chen, next-address}
 use Rattle.meaning.specs.Code.{copiedAt}
-use Rattle.meaning.specs.Walk.{mostCommands, recordOf, walkOf}
+use Rattle.meaning.specs.Walk.{recordOf, WalkGives}
 use Rattle.meaning.specs.Command.{noRecord}
-use Rattle.promises.specs.Table.{Case, _⇒_, Given, NoneOf}
-use Rattle.promises.specs.Conditions.{Within, Odd, SizesWrong}
+use Rattle.meaning.specs.Table.{Case, _⇒_, Given, NoneOf}
+use Rattle.meaning.specs.Conditions.{Odd, Shares, SizesWrong}
 
+-- m is memory
 module _ (m : List ℕ) (start : ℕ) where
   -- the address of the k-th IOPB, the first being 0, as far as each names a next one
   abbrev pub reached : ℕ → ℕ
   reached zero = start
   reached (suc k) = next-address m (reached k)
 
-  -- "has not all 30 bytes in memory"
+  -- its 30 bytes are not all in memory
   abbrev pub OutOfMemory : ℕ → Type 0
   OutOfMemory k = length m < reached k + iopbBytes
 
-  -- "shares a byte with an earlier one of the chain (a loop is such a case)"
+  -- it shares a byte with an earlier IOPB of the chain
   abbrev pub SharesEarlier : ℕ → Type 0
-  SharesEarlier k =
-      (j : ℕ) × (j < k) × ((x : ℕ) × Within x (reached j) iopbBytes × Within x (reached k) iopbBytes)
+  SharesEarlier k = (j : ℕ) × (j < k) × Shares (reached j) (reached k)
 
-  -- "CHEN set means that another follows"; with an odd next address "The chain ends here"
+  -- CHEN is clear, or it is set and the next address is odd: the chain ends with this IOPB
   abbrev pub Ends : ℕ → Type 0
   Ends k = (chen m (reached k) ≢ 1) ⊎ Odd (next-address m (reached k))
 
-  -- "at each IOPB in turn 5, 3, 4", and 0 where the chain ends; past the 32nd is place 32
+  -- at each IOPB 5, 3, 4, and 0 where the chain ends; the 33rd is place 32
   abbrev pub atIopb : ℕ → List Case
   atIopb k =
       (mostCommands ≤ k) ⇒ 5
@@ -51,37 +53,34 @@ module _ (m : List ℕ) (start : ℕ) where
   abbrev pub InTurn : ℕ → Type 0
   InTurn N = (k : ℕ) × Comes k × Given (atIopb k) N
 
--- "Order: 1, 2, then at each IOPB in turn 5, 3, 4."
-abbrev pub walkTable : List ℕ → List ℕ → Drive → ℕ → ℕ → List Case
-walkTable m i d start N =
-    -- "memory over 65,536, image over its limit or not the drive's size"; a table by value is never shorter than 32
-    SizesWrong m i d ⇒ 1
-    -- "first address odd"
+-- 1, then 2, then from IOPB to IOPB
+abbrev pub walkTable : Drive → ℕ → State → ℕ → List Case
+walkTable d start s N =
+    SizesWrong d s ⇒ 1
     ∷ Odd start ⇒ 2
-    ∷ InTurn m start N ⇒ N
+    ∷ InTurn (s .store memory) start N ⇒ N
     ∷ []
 
 abbrev pub WalkExactlyWhen : ℕ → Type 0
 WalkExactlyWhen N =
-    (m i : List ℕ) (d : Drive) (start : ℕ) (t : List Record) (w : Walked)
-    → w ≡ walkOf m i d start t
-    → (w .number ≡ N) ↔ Given (walkTable m i d start N) N
+    (d : Drive) (start : ℕ) (s : State) (w : Walked) (t′ : List Record)
+    → WalkGives d start s w t′
+    → (w .number ≡ N) ↔ Given (walkTable d start s N) N
 
--- "accepted | table filled": w holds a record for each IOPB up to the k-th, where the chain ends, from its copied bytes, and
--- "Records past the last command .. are left alone"
-pub record Filled (m : List ℕ) (d : Drive) (start : ℕ) (t : List Record) (w : Walked) (k : ℕ) : Type 0 where
+-- t′ holds a record for each IOPB up to the k-th, where the chain ends, from its copied bytes; records past them are left alone
+pub record Filled (m : List ℕ) (d : Drive) (start : ℕ) (t : List Record) (w : Walked) (t′ : List Record) (k : ℕ) : Type 0 where
   pub comes : Comes m start k
   pub ends : Given (atIopb m start k) 0
   pub commands : w .commands ≡ suc k
   pub records : (j : ℕ)
       → j ≤ k
-      → getD (w .table) j noRecord ≡ recordOf (copiedAt m (reached m start j)) (reached m start j) d (length m)
-  pub others : (j : ℕ) → k < j → getD (w .table) j noRecord ≡ getD t j noRecord
-  pub size : mostCommands ≤ length t → length (w .table) ≡ length t
+      → getD t′ j noRecord ≡ recordOf (copiedAt m (reached m start j)) (reached m start j) d (length m)
+  pub others : (j : ℕ) → k < j → getD t′ j noRecord ≡ getD t j noRecord
+  pub size : length t′ ≡ length t
 
 abbrev pub WalkFills : Type 0
 WalkFills =
-    (m i : List ℕ) (d : Drive) (start : ℕ) (t : List Record) (w : Walked)
-    → w ≡ walkOf m i d start t
+    (d : Drive) (start : ℕ) (s : State) (w : Walked) (t′ : List Record)
+    → WalkGives d start s w t′
     → w .number ≡ 0
-    → (k : ℕ) × Filled m d start t w k
+    → (k : ℕ) × Filled (s .store memory) d start (s .table) w t′ k

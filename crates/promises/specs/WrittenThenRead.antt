@@ -1,36 +1,43 @@
--- "a sector written and read back is equal": demand 2. One step writes a sector, any steps come after it of which none writes that
--- sector, and then a step reads it: the 512 bytes that come into memory are those that the write took. Assumes nothing.
+-- A sector that is written and then read back is equal (Demand 2). Along steps taken one after another, as those of any run, one at place w
+-- writes a sector, steps follow of which none writes that sector, and then one at place r reads it: the 512 bytes that come into memory are
+-- those that the write took.
 use mathlib.Core.Path.{_≡_}
 use mathlib.Core.Logic.{_≢_}
 use Prim.Native.Nat.{ℕ, _+_, _<_}
-use mathlib.Core.List.{List, [], _∷_}
+use mathlib.Core.List.{List, _∷_, _++_}
 use lib.ListN.{take, drop}
+use Rattle.meaning.specs.declared.Drive.{Drive}
 use Rattle.meaning.specs.declared.Record.{Record}
+use Rattle.meaning.specs.Store.{memory, Store}
+use Rattle.meaning.specs.State.{State}
 use Rattle.meaning.specs.Sectors.{sectorBytes}
-use Rattle.meaning.specs.Step.{Store}
-use Rattle.promises.specs.Conditions.{Reads, Writes}
-use Rattle.promises.specs.StepMoves.{MayStep, sectorOf, inMemory, Posted}
-use Rattle.promises.specs.RunSteps.{Act, act, acts}
+use Rattle.meaning.specs.Pick.{stepAt}
+use Rattle.meaning.specs.Conditions.{Reads, Writes}
+use Rattle.promises.specs.StepMoves.{sectorOf, inMemory, Posted}
+use Rattle.promises.specs.PickMoves.{commandAt}
+use Rattle.promises.specs.Taken.{stepsAt, Along, Taken}
 
--- none of these steps writes sector n
-abbrev pub NoneWrites : ℕ → List Act → Type 0
-NoneWrites n [] = Unit
-NoneWrites n (a ∷ rest) = (Writes (a .command) → sectorOf (a .command) ≢ n) × NoneWrites n rest
+-- the step at place p does not write sector k
+abbrev pub Spares : ℕ → State → ℕ → Type 0
+Spares k s p = Writes (commandAt s p) → sectorOf (commandAt s p) ≢ k
 
--- the 512 bytes of memory that a step moves
-abbrev pub dataOf : Record → List ℕ → List ℕ
-dataOf r m = take sectorBytes (drop (inMemory r) m)
+-- the 512 bytes of memory that a step of r moves
+abbrev pub dataOf : Record → Store → List ℕ
+dataOf r s = take sectorBytes (drop (inMemory r) (s memory))
 
--- s is memory and image when w writes, s₁ when r reads; "if no step between writes it and no status byte lies in the read's data"
+-- s₁ is the state in which w writes, s₂ that in which r reads
+abbrev pub Again : Drive → State → ℕ → List ℕ → State → ℕ → Type 0
+Again d s₁ w between s₂ r =
+    Writes (commandAt s₁ w)
+    → Reads (commandAt s₂ r)
+    → sectorOf (commandAt s₂ r) ≡ sectorOf (commandAt s₁ w)
+    → Along d (Spares (sectorOf (commandAt s₁ w))) between (stepAt d w s₁)
+    -- no status byte lies in the data of the read
+    → ((j : ℕ) → j < sectorBytes → ¬ Posted (commandAt s₂ r) memory (inMemory (commandAt s₂ r) + j))
+    → dataOf (commandAt s₂ r) (stepAt d r s₂ .store) ≡ dataOf (commandAt s₁ w) (s₁ .store)
+
 abbrev pub WrittenThenRead : Type 0
 WrittenThenRead =
-    (w r : Act) (between : List Act) (s s₁ : Store)
-    → Writes (w .command)
-    → Reads (r .command)
-    → sectorOf (r .command) ≡ sectorOf (w .command)
-    → MayStep (w .drive) (w .command) s
-    → s₁ ≡ acts between (act w s)
-    → NoneWrites (sectorOf (w .command)) between
-    → MayStep (r .drive) (r .command) s₁
-    → ((j : ℕ) → j < sectorBytes → ¬ Posted (r .command) (inMemory (r .command) + j))
-    → dataOf (r .command) (act r s₁ .memory) ≡ dataOf (w .command) (s .memory)
+    (d : Drive) (n : ℕ) (before : List ℕ) (w : ℕ) (between : List ℕ) (r : ℕ) (after : List ℕ) (s s′ : State)
+    → Taken d n (before ++ (w ∷ (between ++ (r ∷ after)))) s s′
+    → Again d (stepsAt d before s) w between (stepsAt d between (stepAt d w (stepsAt d before s))) r

@@ -1,8 +1,5 @@
 -- What the walks of the functions over the viewer share, and the theorems about the definitions.
 pub mod Callee
-pub mod Caller
 pub mod Reading
-pub mod Making
-pub mod Same
 pub mod Zero
 pub mod OneReply

@@ -1,4 +1,4 @@
--- The viewer of document 01: what its making gives and the fields that it shows; then what is proved of these.
-pub mod Made
+-- What is told of a viewer, in the terms of `meaning`; and what is proved of the fields that it shows, and of its functions' replies.
+pub mod Seen
 pub mod Zero
 pub mod OneReply

@@ -1,10 +1,11 @@
-// A viewer over lent memory shows one IOPB field by field: it keeps the memory and the address, and the number of its making.
-// The functions over the viewer are thin: each takes it apart and leaves the work to a function over the slice and the address.
+// A viewer over lent memory shows one IOPB field by field: it keeps the memory and the address, and the number of its making (View 1 to 7).
+// The functions over the viewer are thin: each takes it apart and leaves the work to a function over the slice and the address. `view`
+// shows all fields at once, to a caller that keeps no viewer.
+use meaning::Iopb;
 ghost use mathlib.Core.Path.{_≡_};
 ghost use Rattle.meaning.specs.Fields as iopb;
-ghost use Rattle.viewer.specs.Made.{seen, madeNumber, made};
-
-pub mod made;
+ghost use Rattle.meaning.specs.View.{madeNumber, made, viewOf};
+ghost use Rattle.viewer.specs.Seen.{seen};
 
 pub struct Viewer<'a> {
     pub memory: &'a [u8],
@@ -53,6 +54,36 @@ pub fn make<'a>(memory: &'a [u8], at: u32) -> Viewer<'a>
         memory: view_memory(memory, at),
         at: view_at(memory, at),
         number: view_number(memory, at),
+    }
+}
+
+// The number of the making and every field, as a viewer of the IOPB at an address shows them: 0 where the making is refused.
+pub fn view(memory: &[u8], at: u32) -> Iopb
+    ensures { λ r. ⌜ r ≡ viewOf (now (memory .entry)) at ⌝ }
+{
+    let number = view_number(memory, at);
+    let kept = view_memory(memory, at);
+    let address = view_at(memory, at);
+    Iopb {
+        data_address: iopb::data_address(kept, address),
+        next_address: iopb::next_address(kept, address),
+        count: iopb::count(kept, address),
+        cylinder: iopb::cylinder(kept, address),
+        number,
+        errs: iopb::errs(kept, address),
+        done: iopb::done(kept, address),
+        chen: iopb::chen(kept, address),
+        sgm: iopb::sgm(kept, address),
+        command: iopb::command(kept, address),
+        completion: iopb::completion(kept, address),
+        wrpt: iopb::wrpt(kept, address),
+        oncl: iopb::oncl(kept, address),
+        drdy: iopb::drdy(kept, address),
+        internal: iopb::internal(kept, address),
+        subfunction: iopb::subfunction(kept, address),
+        unit: iopb::unit(kept, address),
+        head: iopb::head(kept, address),
+        sector: iopb::sector(kept, address),
     }
 }
 

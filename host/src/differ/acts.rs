@@ -88,7 +88,13 @@ fn list_of_picks(play: &mut Play) -> Played {
         // Long enough to finish some chains, not all.
         _ => play.rng.between(2, 8 + 2 * play.commands.min(20) as u64),
     };
-    let picks = (0..length).map(|_| random_place(play).min(255) as u8).collect();
+    let mut picks: Vec<u8> = Vec::new();
+    while (picks.len() as u64) < length {
+        let place = random_place(play).min(255) as u8;
+        // One place now and then several times on end, also more often than it has steps.
+        let times = if play.rng.once_in(5) { play.rng.between(2, 6) } else { 1 };
+        picks.extend((0..times).map(|_| place));
+    }
     let lent = lent_length(play);
     play.call(Call::Picks { picks, commands: play.commands, lent })?;
     Ok(())

@@ -1,6 +1,6 @@
 //! One call of a board, and its reply, in a form that both sides share.
 
-use crate::declared::{LentRan, LentWalked};
+use crate::declared::{Ran, Walked};
 use std::fmt;
 
 /// A call. `lent` is the length of the table that is lent for it.
@@ -17,9 +17,9 @@ pub enum Call {
 /// What a call gives.
 #[derive(Clone, Debug, PartialEq, Eq)]
 pub enum Reply {
-    Walked(LentWalked),
+    Walked(Walked),
     Picked(u8),
-    Ran(LentRan),
+    Ran(Ran),
     /// The number, and where the part of the image lies.
     Looked {
         number: u8,

@@ -2,7 +2,7 @@
 //! with its own. Whatever is set is set on both; after each call both are compared whole.
 
 use crate::boards::Board;
-use crate::declared::{LentRan, LentWalked, Record};
+use crate::declared::{Ran, Walked, Record};
 use crate::differ::call::{Call, Reply};
 use crate::translate::{drive_of, record_of, second_fields_of};
 
@@ -147,7 +147,7 @@ impl<'a> Sides<'a> {
                 let table = &mut self.second_table[..*lent];
                 let reply = second::walk::walk(board, table, u64::from(*start));
                 let commands = reply.commands as usize;
-                Reply::Walked(LentWalked { number: reply.number, commands })
+                Reply::Walked(Walked { number: reply.number, commands })
             }
             Call::Pick { place, commands, lent } => {
                 let table = &mut self.second_table[..*lent];
@@ -157,13 +157,13 @@ impl<'a> Sides<'a> {
                 let table = &mut self.second_table[..*lent];
                 let ran = second::run::run_picks(board, table, *commands as u64, picks);
                 let (steps, refused) = (ran.steps, ran.refused);
-                Reply::Ran(LentRan { steps, refused, number: ran.number, finished: ran.finished })
+                Reply::Ran(Ran { steps, refused, number: ran.number, finished: ran.finished })
             }
             Call::Written { budget, commands, lent } => {
                 let table = &mut self.second_table[..*lent];
                 let ran = second::run::run_written(board, table, *commands as u64, *budget);
                 let (steps, number) = (ran.steps, ran.number);
-                Reply::Ran(LentRan { steps, refused: 0, number, finished: ran.finished })
+                Reply::Ran(Ran { steps, refused: 0, number, finished: ran.finished })
             }
             Call::Look { sector } => self.look_by_second(*sector),
             Call::View { at } => {

@@ -26,6 +26,8 @@ pub struct Ground {
     /// The table as the walk leaves it.
     pub walked: Table,
     pub tables: Vec<Table>,
+    /// Picks that take every place in turn to its end.
+    pub in_turn: Vec<u8>,
     /// The second program's own board and tables.
     pub second: Board,
     pub second_tables: Vec<[second::record::Record; COMMANDS]>,
@@ -84,6 +86,7 @@ impl Ground {
             drive: DRIVE,
             walked,
             tables: vec![walked; TABLES],
+            in_turn: (0..COMMANDS * count).map(|pick| (pick / count) as u8).collect(),
             second,
             second_tables: Vec::new(),
         };

@@ -1,63 +1,97 @@
-//! The page of results, docs/SPEED.md: a row for each work, with times, ratios, goal and verdict.
+//! The page of results, docs/SPEED.md: a row for each work, with times, ratios, goal and verdict, and
+//! the count of copies.
 
-use crate::speed::works::Work;
+use crate::copies;
+use crate::copies::Counted;
+use crate::speed::clock::{Times, ROUNDS};
+use crate::speed::works::{Against, Work};
 use std::process::Command;
 
-/// A work, and the nanoseconds of a unit: plain copy, firmware, ordinary Rust, second program.
+/// A work, and the times of its sides, in the same order.
 pub struct Row {
     pub work: Work,
-    pub times: [f64; 4],
+    pub times: Vec<Times>,
 }
 
 impl Row {
-    /// The firmware's time, as so many times the plain copy's.
-    pub fn ratio(&self) -> f64 {
-        self.times[1] / self.times[0]
-    }
-
-    pub fn met(&self) -> bool {
-        self.work.goal.is_none_or(|goal| self.ratio() <= goal)
-    }
-
-    fn verdict(&self) -> String {
-        match self.work.goal {
-            None => "(no goal)".to_string(),
-            Some(goal) => {
-                format!("{goal} {}", if self.met() { "met" } else { "**missed**" })
-            }
+    fn other(&self, against: Against) -> &Times {
+        match against {
+            Against::Copy => &self.times[0],
+            Against::Ordinary => &self.times[2],
         }
     }
 
-    fn line(&self) -> String {
-        let [copy, firmware, ordinary, second] = self.times;
-        format!(
-            "| {} | {} | {} | {} | {:.2} | {} | {} | {:.2} | {} |",
+    /// The firmware's time, as so many times another side's.
+    pub fn ratio(&self, against: Against) -> f64 {
+        self.times[1].ratio(self.other(against))
+    }
+
+    pub fn met(&self) -> bool {
+        self.work.goal.is_none_or(|(against, goal)| self.ratio(against) <= goal)
+    }
+
+    fn spread(&self) -> f64 {
+        self.work.goal.map_or(0.0, |(against, _)| self.times[1].spread(self.other(against)))
+    }
+
+    fn goal(&self) -> String {
+        match self.work.goal {
+            None => "(no goal)".to_string(),
+            Some((Against::Copy, goal)) => format!("{goal:.2} of the copy"),
+            Some((Against::Ordinary, goal)) => format!("{goal:.2} of ordinary"),
+        }
+    }
+
+    fn verdict(&self) -> &'static str {
+        match self.work.goal {
+            None => "",
+            Some(_) if self.met() => " met",
+            Some(_) => " **missed**",
+        }
+    }
+
+    /// What is said of a row that missed its goal: by how much it is above what is allowed.
+    pub fn missed(&self) -> Option<String> {
+        let (against, goal) = self.work.goal.filter(|_| !self.met())?;
+        let allowed = goal * self.other(against).median();
+        let above = time(Some(self.times[1].median() - allowed));
+        Some(format!(
+            "{}: {:.2}, where {} is the goal: {above} too long",
             self.work.name,
-            time(firmware),
-            self.work.against,
-            time(copy),
-            self.ratio(),
+            self.ratio(against),
+            self.goal(),
+        ))
+    }
+
+    fn line(&self) -> String {
+        let median = |side: usize| self.times.get(side).map(Times::median);
+        let [copy, firmware, ordinary, second] = [0, 1, 2, 3].map(median).map(time);
+        format!(
+            "| {} | {firmware} | {} | {copy} | {:.2} | {ordinary} | {:.2} | {}{} | {second} |",
+            self.work.name,
+            self.work.copied,
+            self.ratio(Against::Copy),
+            self.ratio(Against::Ordinary),
+            self.goal(),
             self.verdict(),
-            time(ordinary),
-            firmware / ordinary,
-            time(second),
         )
     }
 }
 
-fn time(nanoseconds: f64) -> String {
+fn time(nanoseconds: Option<f64>) -> String {
     match nanoseconds {
-        short if short < 1e3 => format!("{short:.1} ns"),
-        middle if middle < 1e6 => format!("{:.2} us", middle / 1e3),
-        long => format!("{:.2} ms", long / 1e6),
+        None => "not timed".to_string(),
+        Some(short) if short < 1e3 => format!("{short:.1} ns"),
+        Some(middle) if middle < 1e6 => format!("{:.2} us", middle / 1e3),
+        Some(long) => format!("{:.2} ms", long / 1e6),
     }
 }
 
 /// The table of all rows.
 pub fn table(rows: &[Row]) -> String {
     let mut text = String::from(
-        "| work | firmware | plain copy of | takes | firmware / copy | goal | ordinary Rust | \
-         firmware / ordinary | second program |\n|---|---|---|---|---|---|---|---|---|\n",
+        "| work | firmware | plain copy of | takes | firmware / copy | ordinary Rust | \
+         firmware / ordinary | goal | second program |\n|---|---|---|---|---|---|---|---|---|\n",
     );
     for row in rows {
         text += &row.line();
@@ -80,7 +114,8 @@ fn value<'a>(text: &'a str, name: &str) -> Option<&'a str> {
     })
 }
 
-/// The kind of machine: its architecture, and the processor's model if the system tells it.
+/// The kind of machine: its architecture, the processor's model if the system tells it, and the
+/// compilers.
 fn machine() -> String {
     let cpuinfo = std::fs::read_to_string("/proc/cpuinfo").unwrap_or_default();
     let lscpu = said("lscpu", &[]).unwrap_or_default();
@@ -89,41 +124,64 @@ fn machine() -> String {
         .iter()
         .filter_map(|name| Some(format!(", {name} {}", value(&lscpu, name)?)))
         .collect::<String>();
-    format!("{}, {}{caches}", std::env::consts::ARCH, model.unwrap_or("model not told"))
+    let compilers = [("rustc", "--version"), ("rt", "version")]
+        .iter()
+        .filter_map(|(command, word)| said(command, &[word]))
+        .map(|version| format!("; {}", version.trim()))
+        .collect::<String>();
+    let model = model.unwrap_or("model not told");
+    format!("{}, {model}{caches}{compilers}", std::env::consts::ARCH)
 }
 
-/// What a profile and the counts of instructions say of the goals that are missed.
-const WHY_MISSED: &str = "\
-- Why goals are missed, by a profile on a Neoverse-V1. At one sector a command, 1.25 leaves 2.5 ns a command beside the \
-copy, and testing a record, closing its command and counting take 5 ns in ordinary Rust too. A pick tests all 32 records \
-for number 9 and each earlier unfinished command for a conflict; beside that its table, 640 bytes by value, is copied \
-eight times at some 9 ns, to the two tests and on its way back to the lent table. The forms by value are the price of \
-proving a pick once for both forms; a pick within a run by picks copies no table.\n";
+/// What a profile shows of the goals that are missed. It is written by hand, of the code as it is
+/// measured, so whoever changes that code empties it or makes a new profile; empty, it is left out.
+const PROFILE: &str = "";
+
+/// By how much goals are missed, and what a profile shows of it.
+fn misses(rows: &[Row]) -> String {
+    let missed: Vec<String> = rows.iter().filter_map(Row::missed).collect();
+    if missed.is_empty() {
+        return String::new();
+    }
+    format!("- Missed: {}.{PROFILE}\n", missed.join("; "))
+}
 
 /// The whole page.
-pub fn page(rows: &[Row]) -> String {
+pub fn page(rows: &[Row], counted: &[Counted]) -> String {
     let date = said("date", &["-u", "+%Y-%m-%d"]).unwrap_or_default();
     let missed = rows.iter().filter(|row| !row.met()).count();
     let goals = rows.iter().filter(|row| row.work.goal.is_some()).count();
+    let spread = rows.iter().map(Row::spread).fold(0.0, f64::max);
     let table = table(rows);
     format!(
         "# How fast the firmware is\n\n\
          `tools/speed` measures and writes this page. Measured on {} ({}); {} of {goals} goals met.\n\n\
          {table}\n\
          - Times are for one unit of the work: a run, a pick, a walk; 1,000 ns are 1 us, a millionth of a second. They \
-         are the fastest of many batches in a round, \
-         and the median of 15 rounds; the sides take turns on the same memory and image.\n\
-         - The firmware is target/native/libfirmware.a, called from Rust. On Arm it is the \
-         toolchain's own LLVM module, compiled for Arm (tools/archive).\n\
+         are the fastest of many batches in a round, and the median of {ROUNDS} rounds; the sides take turns on the same \
+         memory and image, which are new in each round. A ratio is the median of the rounds' own ratios. In every row with \
+         a goal the middle half of them lies within {:.1} %. That is for one build: where the linker lays the same code \
+         has moved the walk in ordinary Rust between 265 and 340 ns on a Neoverse-V1.\n\
+         - The firmware is target/native/libfirmware.a, called from Rust. On Arm it is the toolchain's own LLVM module, \
+         compiled for Arm (tools/archive).\n\
          - The chain has 32 transfers, reads and writes in turn, of 1, 8 or 128 sectors each. Memory has 65,536 bytes, \
-         which 128 sectors fill, so from 8 sectors on commands share their data area. A run tests sizes and table, \
-         moves every sector and closes every command; the copy only moves the sectors.\n\
-         - \"Ordinary Rust\" is host/src/ordinary.rs: the same replies, written in the usual way with no proofs. The \
-         second program is second/, which is plain and slow on purpose.\n\
+         which 128 sectors fill, so from 8 sectors on commands share their data area. A run tests sizes and table, moves \
+         every sector and closes every command; the copy only moves the sectors. Places in turn: all picks of a place \
+         before those of the next, since commands of 128 sectors all wait for each other.\n\
+         - \"Ordinary Rust\" is host/src/ordinary.rs: the same replies with no proofs, written for speed as far as it \
+         stays easy to read; it says what faster form was left out. The second program is second/, which is plain and \
+         slow on purpose.\n\
+         {}\n\
+         ## How often a table is copied\n\n\
+         `tools/copies` counts it in the compiled module, along the way through each function that has most: all bytes of a \
+         table go from one place to another. At most two are allowed for a pick and for each run. Fills are told beside \
+         it: all bytes of a table are set to one value. What is seen and what is not: docs/DECISIONS.md.\n\n\
          {}",
         date.trim(),
         machine(),
         goals - missed,
-        if missed == 0 { "" } else { WHY_MISSED },
+        100.0 * spread,
+        misses(rows),
+        copies::table(counted),
     )
 }

@@ -38,13 +38,19 @@ fn copy_commands(ground: &mut Ground) {
     }
 }
 
-/// The sectors of the whole chain, one copy for each sector.
+/// The sectors of the whole chain, one copy for each sector. Only for commands of one sector: with
+/// more, its time has differed by half from one run of the program to the next.
 fn copy_sectors(ground: &mut Ground) {
     for table in &ground.tables {
         for record in black_box(table) {
             copy(&mut ground.memory, &mut ground.image, record, 1);
         }
     }
+}
+
+/// Every place once, from the last to the first.
+fn last_to_first() -> [u8; COMMANDS] {
+    std::array::from_fn(|k| (COMMANDS - 1 - k) as u8)
 }
 
 macro_rules! board_works {
@@ -88,12 +94,21 @@ macro_rules! board_works {
         }
 
         pub fn run_by_picks(g: &mut Ground) {
-            let picks: [u8; COMMANDS] = std::array::from_fn(|k| (COMMANDS - 1 - k) as u8);
+            let picks = last_to_first();
             for table in &mut g.tables {
                 let table = black_box(table);
                 let (memory, image) = (&mut g.memory, &mut g.image);
                 let ran = $board::run_picks(memory, image, g.drive, table, COMMANDS, &picks);
                 assert!(ran.finished);
+            }
+        }
+
+        pub fn run_in_turn(g: &mut Ground) {
+            for table in &mut g.tables {
+                let (table, picks) = (black_box(table), &g.in_turn);
+                let (memory, image) = (&mut g.memory, &mut g.image);
+                let ran = $board::run_picks(memory, image, g.drive, table, COMMANDS, picks);
+                assert!(ran.finished && ran.refused == 0);
             }
         }
 
@@ -153,7 +168,7 @@ mod slow {
     }
 
     pub fn run_by_picks(g: &mut Ground) {
-        let picks: [u8; COMMANDS] = std::array::from_fn(|k| (COMMANDS - 1 - k) as u8);
+        let picks = last_to_first();
         for table in &mut g.second_tables {
             let ran = second::run::run_picks(&mut g.second, table, COMMANDS as u64, &picks);
             assert!(ran.finished);
@@ -167,82 +182,112 @@ mod slow {
     }
 }
 
+/// What the firmware is held against.
+#[derive(Clone, Copy, PartialEq, Eq)]
+pub enum Against {
+    Copy,
+    Ordinary,
+}
+
 /// One row of the page: what is done, on chains of how many sectors a command, by which sides.
 pub struct Work {
     pub name: String,
-    pub unit: &'static str,
-    pub against: &'static str,
-    /// The most that the firmware may take, as so many times the plain copy; none where it is only
-    /// told.
-    pub goal: Option<f64>,
+    /// What the plain copy copies.
+    pub copied: &'static str,
+    /// The most that the firmware may take, as so many times the side that it is held against; none
+    /// where it is only told.
+    pub goal: Option<(Against, f64)>,
     pub count: usize,
+    /// The copy, the firmware, ordinary Rust, and the second program where it is timed.
     pub sides: Vec<Side>,
 }
 
 type Batch = fn(&mut Ground);
 
-/// The sides of a work: the copy, then the three boards, with the units of a batch of each.
-fn sides(copied: (Batch, usize), boards: [Batch; 3], units: usize) -> Vec<Side> {
-    let [firmware, plain, slow] = boards;
-    vec![
-        Side { name: COPY, batch: copied.0, units: copied.1 },
+/// What a plain copy copies, in words, by a batch, and how many units a batch has.
+type Copied = (&'static str, Batch, usize);
+
+const WHOLE: Copied = ("the same, one copy a command", copy_commands, TABLES);
+const ONE_SECTOR: Copied = ("one sector", copy_sectors, TABLES * COMMANDS);
+const ALL_SECTORS: Copied = ("32 sectors", copy_sectors, TABLES);
+
+/// A row: its boards are the firmware, ordinary Rust and the second program, if it is timed.
+fn work(
+    name: &str,
+    count: usize,
+    copied: Copied,
+    boards: (Batch, Batch, Option<Batch>),
+    units: usize,
+    goal: Option<(Against, f64)>,
+) -> Work {
+    let (firmware, plain, slow) = boards;
+    let mut sides = vec![
+        Side { name: COPY, batch: copied.1, units: copied.2 },
         Side { name: FIRMWARE, batch: firmware, units },
         Side { name: ORDINARY, batch: plain, units },
-        Side { name: SECOND, batch: slow, units },
+    ];
+    sides.extend(slow.map(|batch| Side { name: SECOND, batch, units }));
+    Work { name: name.to_string(), copied: copied.0, goal, count, sides }
+}
+
+fn runs_as_written() -> Vec<Work> {
+    let goals =
+        [(1, Against::Ordinary, 1.10), (8, Against::Copy, 1.15), (128, Against::Copy, 1.05)];
+    let boards = (firmware::run_written as Batch, plain::run_written as Batch);
+    goals
+        .map(|(count, against, goal)| {
+            let name = format!("run as written, 32 commands of {count}");
+            let boards = (boards.0, boards.1, Some(slow::run_written as Batch));
+            work(&name, count, WHOLE, boards, TABLES, Some((against, goal)))
+        })
+        .into()
+}
+
+fn runs_by_picks() -> Vec<Work> {
+    // the second program takes a second for a batch of these
+    let in_turn: (Batch, Batch, Option<Batch>) = (firmware::run_in_turn, plain::run_in_turn, None);
+    let reversed: (Batch, Batch, Option<Batch>) =
+        (firmware::run_by_picks, plain::run_by_picks, Some(slow::run_by_picks));
+    let turns = "run by picks, 32 commands of 128, places in turn";
+    let back = "run by picks, 32 commands of 1, last to first";
+    vec![
+        work(turns, 128, WHOLE, in_turn, TABLES, Some((Against::Copy, 1.15))),
+        work(back, 1, WHOLE, reversed, TABLES, Some((Against::Ordinary, 1.10))),
     ]
 }
 
-fn run_as_written(count: usize, whole: bool) -> Work {
-    let boards: [Batch; 3] = [firmware::run_written, plain::run_written, slow::run_written];
-    let copied: Batch = if whole { copy_commands } else { copy_sectors };
-    let against = if whole { "the same, one copy a command" } else { "the same, sector by sector" };
-    Work {
-        name: format!("run as written, 32 commands of {count}"),
-        unit: "run",
-        against,
-        goal: whole.then_some(1.25),
-        count,
-        sides: sides((copied, TABLES), boards, TABLES),
-    }
-}
-
-fn picks() -> Vec<Work> {
-    let one = |name: &str, goal, boards, units| Work {
-        name: name.to_string(),
-        unit: "pick",
-        against: "one sector",
-        goal,
-        count: 1,
-        sides: sides((copy_sectors, TABLES * COMMANDS), boards, units),
+fn single_picks() -> Vec<Work> {
+    let one = |name: &str, boards: [Batch; 3], units| {
+        let [firmware, plain, slow] = boards;
+        let goal = Some((Against::Ordinary, 1.25));
+        work(name, 1, ONE_SECTOR, (firmware, plain, Some(slow)), units, goal)
     };
-    let first: [Batch; 3] =
-        [firmware::picks_first_last, plain::picks_first_last, slow::picks_first_last];
-    let each: [Batch; 3] =
-        [firmware::picks_last_first, plain::picks_last_first, slow::picks_last_first];
-    let last: [Batch; 3] = [firmware::pick_last, plain::pick_last, slow::pick_last];
-    let list: [Batch; 3] = [firmware::run_by_picks, plain::run_by_picks, slow::run_by_picks];
     vec![
-        one("a pick, 32 places in turn, first to last", Some(15.0), first, TABLES * COMMANDS),
-        one("a pick, 32 places in turn, last to first", Some(15.0), each, TABLES * COMMANDS),
-        one("a pick at the last place, none finished", Some(15.0), last, TABLES),
-        one("a pick in a run of 32, last to first", None, list, TABLES * COMMANDS),
+        one(
+            "a pick, 32 places in turn, first to last",
+            [firmware::picks_first_last, plain::picks_first_last, slow::picks_first_last],
+            TABLES * COMMANDS,
+        ),
+        one(
+            "a pick, 32 places in turn, last to first",
+            [firmware::picks_last_first, plain::picks_last_first, slow::picks_last_first],
+            TABLES * COMMANDS,
+        ),
+        one(
+            "a pick at the last place, none finished",
+            [firmware::pick_last, plain::pick_last, slow::pick_last],
+            TABLES,
+        ),
     ]
 }
 
 /// All that is measured, in the order of the page.
 pub fn all() -> Vec<Work> {
-    let counts = [1, 8, 128];
-    let mut works: Vec<Work> = counts.map(|count| run_as_written(count, true)).into();
-    works.extend([8, 128].map(|count| run_as_written(count, false)));
-    works.extend(picks());
-    let boards: [Batch; 3] = [firmware::walk, plain::walk, slow::walk];
-    works.push(Work {
-        name: "the walk of 32 commands".to_string(),
-        unit: "walk",
-        against: "32 sectors",
-        goal: Some(3.0),
-        count: 1,
-        sides: sides((copy_sectors, TABLES), boards, TABLES),
-    });
+    let mut works = runs_as_written();
+    works.extend(runs_by_picks());
+    works.extend(single_picks());
+    let walks: (Batch, Batch, Option<Batch>) = (firmware::walk, plain::walk, Some(slow::walk));
+    let goal = Some((Against::Ordinary, 1.10));
+    works.push(work("the walk of 32 commands", 1, ALL_SECTORS, walks, TABLES, goal));
     works
 }

@@ -6,10 +6,6 @@ use super::{inside, one_line, Declared};
 /// C++ keeps the word `protected` for itself, so the header has another for that one field.
 const OTHER_WORDS: [(&str, &str); 1] = [("write_protected", "protected")];
 
-/// Structs that the source still calls otherwise.
-const OTHER_STRUCTS: [(&str, &str); 2] =
-    [("rosadenca_walked", "LentWalked"), ("rosadenca_ran", "LentRan")];
-
 /// What the header has a C compiler test; it declares nothing.
 const TESTS: [&str; 2] = ["ROSADENCA_HOLDS(", "ROSADENCA_AT("];
 
@@ -100,9 +96,6 @@ fn type_of(kind: &str) -> String {
 
 /// `rosadenca_part` is `Part`.
 fn struct_name(name: &str) -> Option<String> {
-    if let Some((_, other)) = OTHER_STRUCTS.iter().find(|(c, _)| *c == name) {
-        return Some(other.to_string());
-    }
     let words = name.strip_prefix("rosadenca_")?.split('_');
     Some(words.map(|word| word[..1].to_uppercase() + &word[1..]).collect())
 }

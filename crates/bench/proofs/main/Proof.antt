@@ -1,4 +1,4 @@
--- `bench::main` is safe and ends: what was read lies within its run. Assumes nothing.
+-- `bench::main` is safe and ends: what was read lies within its run.
 use mathlib.Core.Path.{sym, subst}
 use lib.Seq.{length-take-le}
 use borrow.Author.Needs.{needs}

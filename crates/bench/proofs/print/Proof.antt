@@ -1,4 +1,4 @@
--- `bench::print` is safe and ends: what `print_deck` counts lies within its run. Assumes nothing.
+-- `bench::print` is safe and ends: what `print_deck` counts lies within its run.
 use borrow.Author.Needs.{needs}
 use Rattle.deck.proofs.Outcomes.{print-counts}
 use Rattle.bench.proofs.print.Statement.{statement}

@@ -1,4 +1,4 @@
--- `bench::read_all` meets its contract: each turn of its loop that goes on has read a byte more. Assumes nothing.
+-- `bench::read_all` meets its contract: each turn of its loop that goes on has read a byte more.
 use mathlib.Core.Path.{_≡_}
 use Prim.Native.Nat.{_≤_, _-_}
 use lib.ListN.{length}

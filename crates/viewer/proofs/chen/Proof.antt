@@ -1,4 +1,4 @@
--- `viewer::chen` meets its contract: `shows-field` at its width, its field and its callee. Assumes nothing.
+-- `viewer::chen` meets its contract: `shows-field` at its width, its field and its callee.
 use mir.Syntax.{w8}
 use Rattle.meaning.specs.Fields.{chen}
 use Rattle.iopb.proofs.chen.Symbol as callee

@@ -1,4 +1,4 @@
--- `viewer::command` meets its contract: `shows-field` at its width, its field and its callee. Assumes nothing.
+-- `viewer::command` meets its contract: `shows-field` at its width, its field and its callee.
 use mir.Syntax.{w8}
 use Rattle.meaning.specs.Fields.{command}
 use Rattle.iopb.proofs.command.Symbol as callee

@@ -1,4 +1,4 @@
--- `viewer::completion` meets its contract: `shows-field` at its width, its field and its callee. Assumes nothing.
+-- `viewer::completion` meets its contract: `shows-field` at its width, its field and its callee.
 use mir.Syntax.{w8}
 use Rattle.meaning.specs.Fields.{completion}
 use Rattle.iopb.proofs.completion.Symbol as callee

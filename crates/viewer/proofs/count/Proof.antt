@@ -1,4 +1,4 @@
--- `viewer::count` meets its contract: `shows-field` at its width, its field and its callee. Assumes nothing.
+-- `viewer::count` meets its contract: `shows-field` at its width, its field and its callee.
 use mir.Syntax.{w16}
 use Rattle.meaning.specs.Fields.{count}
 use Rattle.iopb.proofs.count.Symbol as callee

@@ -1,4 +1,4 @@
--- `viewer::cylinder` meets its contract: `shows-field` at its width, its field and its callee. Assumes nothing.
+-- `viewer::cylinder` meets its contract: `shows-field` at its width, its field and its callee.
 use mir.Syntax.{w16}
 use Rattle.meaning.specs.Fields.{cylinder}
 use Rattle.iopb.proofs.cylinder.Symbol as callee

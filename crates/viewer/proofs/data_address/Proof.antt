@@ -1,4 +1,4 @@
--- `viewer::data_address` meets its contract: `shows-field` at its width, its field and its callee. Assumes nothing.
+-- `viewer::data_address` meets its contract: `shows-field` at its width, its field and its callee.
 use mir.Syntax.{w32}
 use Rattle.meaning.specs.Fields.{data-address}
 use Rattle.iopb.proofs.data_address.Symbol as callee

@@ -1,4 +1,4 @@
--- `viewer::done` meets its contract: `shows-field` at its width, its field and its callee. Assumes nothing.
+-- `viewer::done` meets its contract: `shows-field` at its width, its field and its callee.
 use mir.Syntax.{w8}
 use Rattle.meaning.specs.Fields.{done}
 use Rattle.iopb.proofs.done.Symbol as callee

@@ -1,4 +1,4 @@
--- `viewer::drdy` meets its contract: `shows-field` at its width, its field and its callee. Assumes nothing.
+-- `viewer::drdy` meets its contract: `shows-field` at its width, its field and its callee.
 use mir.Syntax.{w8}
 use Rattle.meaning.specs.Fields.{drdy}
 use Rattle.iopb.proofs.drdy.Symbol as callee

@@ -1,4 +1,4 @@
--- `viewer::errs` meets its contract: `shows-field` at its width, its field and its callee. Assumes nothing.
+-- `viewer::errs` meets its contract: `shows-field` at its width, its field and its callee.
 use mir.Syntax.{w8}
 use Rattle.meaning.specs.Fields.{errs}
 use Rattle.iopb.proofs.errs.Symbol as callee

@@ -1,4 +1,4 @@
--- `viewer::head` meets its contract: `shows-field` at its width, its field and its callee. Assumes nothing.
+-- `viewer::head` meets its contract: `shows-field` at its width, its field and its callee.
 use mir.Syntax.{w8}
 use Rattle.meaning.specs.Fields.{head}
 use Rattle.iopb.proofs.head.Symbol as callee

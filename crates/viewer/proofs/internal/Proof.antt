@@ -1,4 +1,4 @@
--- `viewer::internal` meets its contract: `shows-field` at its width, its field and its callee. Assumes nothing.
+-- `viewer::internal` meets its contract: `shows-field` at its width, its field and its callee.
 use mir.Syntax.{w8}
 use Rattle.meaning.specs.Fields.{internal}
 use Rattle.iopb.proofs.internal.Symbol as callee

@@ -1,4 +1,4 @@
--- `viewer::next_address` meets its contract: `shows-field` at its width, its field and its callee. Assumes nothing.
+-- `viewer::next_address` meets its contract: `shows-field` at its width, its field and its callee.
 use mir.Syntax.{w32}
 use Rattle.meaning.specs.Fields.{next-address}
 use Rattle.iopb.proofs.next_address.Symbol as callee

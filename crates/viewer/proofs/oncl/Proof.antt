@@ -1,4 +1,4 @@
--- `viewer::oncl` meets its contract: `shows-field` at its width, its field and its callee. Assumes nothing.
+-- `viewer::oncl` meets its contract: `shows-field` at its width, its field and its callee.
 use mir.Syntax.{w8}
 use Rattle.meaning.specs.Fields.{oncl}
 use Rattle.iopb.proofs.oncl.Symbol as callee

@@ -1,4 +1,4 @@
--- `viewer::sector` meets its contract: `shows-field` at its width, its field and its callee. Assumes nothing.
+-- `viewer::sector` meets its contract: `shows-field` at its width, its field and its callee.
 use mir.Syntax.{w8}
 use Rattle.meaning.specs.Fields.{sector}
 use Rattle.iopb.proofs.sector.Symbol as callee

@@ -1,4 +1,4 @@
--- `viewer::sgm` meets its contract: `shows-field` at its width, its field and its callee. Assumes nothing.
+-- `viewer::sgm` meets its contract: `shows-field` at its width, its field and its callee.
 use mir.Syntax.{w8}
 use Rattle.meaning.specs.Fields.{sgm}
 use Rattle.iopb.proofs.sgm.Symbol as callee

@@ -1,4 +1,4 @@
--- `viewer::subfunction` meets its contract: `shows-field` at its width, its field and its callee. Assumes nothing.
+-- `viewer::subfunction` meets its contract: `shows-field` at its width, its field and its callee.
 use mir.Syntax.{w8}
 use Rattle.meaning.specs.Fields.{subfunction}
 use Rattle.iopb.proofs.subfunction.Symbol as callee

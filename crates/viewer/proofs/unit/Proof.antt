@@ -1,4 +1,4 @@
--- `viewer::unit` meets its contract: `shows-field` at its width, its field and its callee. Assumes nothing.
+-- `viewer::unit` meets its contract: `shows-field` at its width, its field and its callee.
 use mir.Syntax.{w8}
 use Rattle.meaning.specs.Fields.{unit}
 use Rattle.iopb.proofs.unit.Symbol as callee

@@ -1,4 +1,4 @@
--- `viewer::view_at` meets its contract: the number says whether the viewer is refused. Assumes nothing.
+-- `viewer::view_at` meets its contract: the number says whether the viewer is refused.
 use borrow.Author.Needs.{needs}
 use mathlib.Core.Path.{sym, _∙_}
 use borrow.Author.Tests.{eq-eqb, ne-eqb}

@@ -1,7 +1,7 @@
--- `viewer::view_number` meets its contract: each test decides a row of the making's numbers. Assumes nothing.
+-- `viewer::view_number` meets its contract: each test decides a row of the making's numbers.
 use borrow.Author.Needs.{needs}
 use borrow.Author.Tests.{eq-eqb, ne-eqb}
-use Rattle.viewer.specs.Made.{madeNumber}
+use Rattle.meaning.specs.View.{madeNumber}
 use Rattle.viewer.proofs.view_number.Statement.{statement}
 use Rattle.viewer.proofs.view_number.Tie as tie
 

@@ -1,4 +1,4 @@
--- `viewer::wrpt` meets its contract: `shows-field` at its width, its field and its callee. Assumes nothing.
+-- `viewer::wrpt` meets its contract: `shows-field` at its width, its field and its callee.
 use mir.Syntax.{w8}
 use Rattle.meaning.specs.Fields.{wrpt}
 use Rattle.iopb.proofs.wrpt.Symbol as callee

@@ -32,9 +32,11 @@ bad-record-requires : tie.Need-bad-record-requires
 bad-record-requires c κs = search needs
 
 returns-3 : tie.Need-returns-3
-returns-3 c = let a = c .before .before .before .before .before .before .args in
-    (used-seen (a .d) (lent (a .memory .now) []) (a .in-use) (a .r) (a .seen) _ (c .bad-record .result) (not-false _ (c .before .before .before .before .if1 .left)) (ap (λ (n : ℕ). a .seen .left + n) (c .before .before .before .remaining .ensures))
-    ((c .bad-record .ensures) ∙ sym (or-second _ _ (c .before .if2 .left))), omega arith)
+returns-3 c = let a = c .before .before .before .before .before .before .args in (
+  used-seen (a .d) (lent (a .memory .now) []) (a .in-use) (a .r) (a .seen) _ (c .bad-record .result) (not-false _ (c .before .before .before .before .if1 .left)) (ap (λ (n : ℕ). a .seen .left + n) (c .before .before .before .remaining .ensures))
+      ((c .bad-record .ensures) ∙ sym (or-second _ _ (c .before .if2 .left))),
+  omega arith,
+)
 
 pub with-record-spec : {M : Type 1} → statement M
 with-record-spec =

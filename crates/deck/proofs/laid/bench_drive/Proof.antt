@@ -1,4 +1,4 @@
--- `deck::laid::bench_drive` meets its contract: its mark is what `protects` ensures. Assumes nothing.
+-- `deck::laid::bench_drive` meets its contract: its mark is what `protects` ensures.
 use borrow.Author.Needs.{needs}
 use Rattle.meaning.specs.Deck.{benchDrive}
 use Rattle.deck.proofs.laid.bench_drive.Statement.{statement}

@@ -1,4 +1,4 @@
--- `deck::laid::fill` meets its contract: after k turns the first k bytes are v. Assumes nothing.
+-- `deck::laid::fill` meets its contract: after k turns the first k bytes are v.
 use mathlib.Core.Path.{_≡_, refl, ap, _∙_}
 use Prim.Native.Nat.{ℕ, _≤_, _-_}
 use native.Mathlib.Omega.{arith}

@@ -1,4 +1,4 @@
--- `deck::laid::fill_image` meets its contract: after n turns the first n sectors are filled. Assumes nothing.
+-- `deck::laid::fill_image` meets its contract: after n turns the first n sectors are filled.
 use mathlib.Core.Path.{_≡_, refl, sym, _∙_}
 use Prim.Native.Nat.{_*_, _≤_, _-_}
 use native.Mathlib.Omega.{arith}

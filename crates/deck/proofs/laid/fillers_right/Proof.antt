@@ -1,4 +1,4 @@
--- `deck::laid::fillers_right` meets its contract: each test decides a part of the "and". Assumes nothing.
+-- `deck::laid::fillers_right` meets its contract: each test decides a part of the "and".
 use mathlib.Core.Path.{sym}
 use borrow.Author.Needs.{needs}
 use Rattle.deck.proofs.Laying.{wrong-30, first-31, other-31}

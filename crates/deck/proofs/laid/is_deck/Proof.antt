@@ -1,5 +1,5 @@
 -- `deck::laid::is_deck` meets its contract: each test decides a part of the "and"; the records passed have their fillers right, so
--- those that are left decide. Assumes nothing.
+-- those that are left decide.
 use mathlib.Core.Path.{_≡_, sym, _∙_}
 use Prim.Native.Nat.{_≤_, _-_}
 use native.Mathlib.Omega.{arith}

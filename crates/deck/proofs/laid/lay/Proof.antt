@@ -1,4 +1,4 @@
--- `deck::laid::lay` meets its contract: after k turns the first k records are laid in zeros. Assumes nothing.
+-- `deck::laid::lay` meets its contract: after k turns the first k records are laid in zeros.
 use mathlib.Core.Path.{_≡_, refl, sym, _∙_}
 use Prim.Native.Nat.{_≤_, _-_}
 use native.Mathlib.Omega.{arith}

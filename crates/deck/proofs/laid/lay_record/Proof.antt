@@ -1,4 +1,4 @@
--- `deck::laid::lay_record` meets its contract: thirty bytes copied to a part as long are `sets`. Assumes nothing.
+-- `deck::laid::lay_record` meets its contract: thirty bytes copied to a part as long are `sets`.
 use Prim.Native.Nat.{_*_}
 use native.Mathlib.Omega.{arith}
 use borrow.Author.Needs.{needs}

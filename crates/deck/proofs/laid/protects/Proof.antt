@@ -1,4 +1,4 @@
--- `deck::laid::protects` meets its contract: past the end of the bytes there is a 0. Assumes nothing.
+-- `deck::laid::protects` meets its contract: past the end of the bytes there is a 0.
 use mathlib.Core.Path.{sym, ap}
 use Prim.Native.Nat.{ℕ}
 use lib.ListN.{List·getD-eq-default}

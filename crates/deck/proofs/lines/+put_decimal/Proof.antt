@@ -1,4 +1,4 @@
--- `deck::lines::put_decimal` meets its contract: the digits before the last are those of a tenth, which is less. Assumes nothing.
+-- `deck::lines::put_decimal` meets its contract: the digits before the last are those of a tenth, which is less.
 use mathlib.Core.Path.{sym, ap, _∙_}
 use Prim.Native.Nat.{ℕ, _/_, _%_, _<_}
 use native.Mathlib.Omega.{arith}

@@ -1,4 +1,4 @@
--- `deck::lines::digit` meets its contract: the test that the code makes decides. Assumes nothing.
+-- `deck::lines::digit` meets its contract: the test that the code makes decides.
 use mathlib.Core.Path.{sym, _∙_}
 use native.Mathlib.Omega.{arith}
 use borrow.Author.Tests.{lt-ltb, le-ltb}

@@ -1,4 +1,4 @@
--- `deck::lines::print_deck` meets its contract: the lines are those of the deck's outcome. Assumes nothing.
+-- `deck::lines::print_deck` meets its contract: the lines are those of the deck's outcome.
 use borrow.Author.Needs.{needs}
 use Rattle.deck.proofs.Bounds.{report-steps}
 use Rattle.deck.proofs.Outcomes.{too-short, prints}

@@ -1,4 +1,4 @@
--- `deck::lines::put_byte` meets its contract: one store. Assumes nothing.
+-- `deck::lines::put_byte` meets its contract: one store.
 use borrow.Author.Needs.{needs}
 use Rattle.deck.proofs.Putting.{put-one}
 use Rattle.deck.proofs.lines.put_byte.Statement.{statement}

@@ -1,4 +1,4 @@
--- `deck::lines::put_command` meets its contract: its four pieces are those of a line. Assumes nothing.
+-- `deck::lines::put_command` meets its contract: its four pieces are those of a line.
 use mathlib.Core.Path.{sym}
 use native.Mathlib.Omega.{arith}
 use borrow.Author.Needs.{needs}

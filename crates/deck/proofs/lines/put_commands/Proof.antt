@@ -1,4 +1,4 @@
--- `deck::lines::put_commands` meets its contract: after k turns the first k lines stand there, the first ten of five bytes and the others of at most six. Assumes nothing.
+-- `deck::lines::put_commands` meets its contract: after k turns the first k lines stand there, the first ten of five bytes and the others of at most six.
 use mathlib.Core.Path.{_≡_, refl, sym, _∙_, subst}
 use Prim.Native.Nat.{ℕ, _*_, _≤_, _-_, min}
 use native.Mathlib.Omega.{arith}

@@ -1,4 +1,4 @@
--- `deck::lines::put_count` meets its contract: its four pieces are those of a line. Assumes nothing.
+-- `deck::lines::put_count` meets its contract: its four pieces are those of a line.
 use native.Mathlib.Omega.{arith}
 use borrow.Author.Needs.{needs}
 use Rattle.meaning.specs.Lines.{decimal}

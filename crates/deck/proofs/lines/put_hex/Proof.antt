@@ -1,4 +1,4 @@
--- `deck::lines::put_hex` meets its contract: one digit after the other. Assumes nothing.
+-- `deck::lines::put_hex` meets its contract: one digit after the other.
 use mathlib.Core.Path.{ap}
 use Prim.Native.Nat.{ℕ, _/_, _%_}
 use mathlib.Core.List.{[], _∷_}

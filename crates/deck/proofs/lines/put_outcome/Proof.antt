@@ -1,4 +1,4 @@
--- `deck::lines::put_outcome` meets its contract: each case of the outcome puts its own lines. Assumes nothing.
+-- `deck::lines::put_outcome` meets its contract: each case of the outcome puts its own lines.
 use mathlib.Core.Path.{ap}
 use native.Mathlib.Omega.{arith}
 use borrow.Author.Needs.{needs}

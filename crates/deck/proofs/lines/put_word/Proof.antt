@@ -1,4 +1,4 @@
--- `deck::lines::put_word` meets its contract: a word copied to a part as long. Assumes nothing.
+-- `deck::lines::put_word` meets its contract: a word copied to a part as long.
 use borrow.Author.Needs.{needs}
 use Rattle.deck.proofs.Putting.{put-copied}
 use Rattle.deck.proofs.lines.put_word.Statement.{statement}

@@ -1,4 +1,4 @@
--- `deck::run::codes_of` meets its contract: after k turns the first k codes stand in front of zeros. Assumes nothing.
+-- `deck::run::codes_of` meets its contract: after k turns the first k codes stand in front of zeros.
 use mathlib.Core.Path.{_≡_, refl, ap, _∙_}
 use Prim.Native.Nat.{_≤_, _-_}
 use native.Mathlib.Omega.{arith}

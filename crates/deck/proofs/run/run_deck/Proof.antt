@@ -1,4 +1,4 @@
--- `deck::run::run_deck` meets its contract: a deck is laid, and its outcome is that of the chain laid. Assumes nothing.
+-- `deck::run::run_deck` meets its contract: a deck is laid, and its outcome is that of the chain laid.
 use mathlib.Core.Path.{refl, sym, _∙_}
 use borrow.Author.Needs.{needs}
 use Rattle.meaning.specs.Bench.{outcomeOf}

@@ -1,9 +1,9 @@
--- `firmware::rosadenca_look` meets its contract: its test is the definition's. Assumes nothing.
+-- `firmware::rosadenca_look` meets its contract: its test is the definition's.
 use mathlib.Core.Path.{sym, _∙_}
 use borrow.Author.Needs.{needs}
 use borrow.Author.Tests.{eq-eqb, ne-eqb}
 use Rattle.meaning.proofs.Rows.{pass, stop}
-use Rattle.firmware.specs.Looked.{lookedPart}
+use Rattle.meaning.specs.Look.{lookedPart}
 use Rattle.firmware.proofs.look.rosadenca_look.Statement.{statement}
 use Rattle.firmware.proofs.look.rosadenca_look.Tie as tie
 
