@@ -1,6 +1,6 @@
 /*
  * Plays cases in the format of docs/CASES.md, from standard input, over the archive that it is linked with, and prints what that page
- * says. It takes every line but `steps` and `deck`, for which the archive has no function. tools/x86_64 builds and runs it.
+ * says. It takes every line but `deck`, for which the archive has no function. tools/x86_64 builds and runs it.
  */
 #include "rosadenca.h"
 
@@ -165,7 +165,7 @@ static bool play_lent(void)
 
 static bool walk(const char *word, size_t records)
 {
-    rosadenca_lent_walked walked =
+    rosadenca_walked walked =
         rosadenca_walk(memory, memory_length, image, image_length, drive, (uint32_t)number[0], table, records);
     commands = walked.commands;
     printf("%s %d %zu", word, walked.number, walked.commands);
@@ -194,7 +194,7 @@ static bool play_picks(void)
     uint8_t picks[MOST_NUMBERS];
     for (size_t k = 0; k < numbers; k++)
         picks[k] = (uint8_t)number[k];
-    rosadenca_lent_ran ran = rosadenca_run_picks(memory, memory_length, image, image_length, drive, table, BY_VALUE, commands, picks,
+    rosadenca_ran ran = rosadenca_run_picks(memory, memory_length, image, image_length, drive, table, BY_VALUE, commands, picks,
                                                  numbers);
     printf("picks %d %" PRIu64 " %" PRIu64 " %d", ran.number, ran.steps, ran.refused, ran.finished);
     print_digests();
@@ -203,7 +203,7 @@ static bool play_picks(void)
 
 static bool play_written(void)
 {
-    rosadenca_lent_ran ran = rosadenca_run_written(memory, memory_length, image, image_length, drive, table, BY_VALUE, commands,
+    rosadenca_ran ran = rosadenca_run_written(memory, memory_length, image, image_length, drive, table, BY_VALUE, commands,
                                                    number[0]);
     printf("written %d %" PRIu64 " %d", ran.number, ran.steps, ran.finished);
     print_digests();
@@ -219,15 +219,19 @@ static bool play_look(void)
     return true;
 }
 
-static void print_fields(const uint8_t *run, size_t length, uint32_t at)
+/* The chain's steps from its start, of the records that the calls by value use. */
+static bool play_steps(void)
 {
-    printf(" %d %d %d %d %d %d", rosadenca_errs(run, length, at), rosadenca_done(run, length, at), rosadenca_chen(run, length, at),
-           rosadenca_sgm(run, length, at), rosadenca_command(run, length, at), rosadenca_completion(run, length, at));
-    printf(" %d %d %d %d %d %d", rosadenca_wrpt(run, length, at), rosadenca_oncl(run, length, at), rosadenca_drdy(run, length, at),
-           rosadenca_internal(run, length, at), rosadenca_subfunction(run, length, at), rosadenca_unit(run, length, at));
-    printf(" %d %d %d %d %" PRIu32 " %" PRIu32 "\n", rosadenca_count(run, length, at), rosadenca_cylinder(run, length, at),
-           rosadenca_head(run, length, at), rosadenca_sector(run, length, at), rosadenca_data_address(run, length, at),
-           rosadenca_next_address(run, length, at));
+    printf("steps %" PRIu64 "\n", rosadenca_chain_steps(table, BY_VALUE, commands));
+    return true;
+}
+
+static void print_fields(const rosadenca_iopb *iopb)
+{
+    printf(" %d %d %d %d %d %d", iopb->errs, iopb->done, iopb->chen, iopb->sgm, iopb->command, iopb->completion);
+    printf(" %d %d %d %d %d %d", iopb->wrpt, iopb->oncl, iopb->drdy, iopb->internal, iopb->subfunction, iopb->unit);
+    printf(" %d %d %d %d %" PRIu32 " %" PRIu32 "\n", iopb->count, iopb->cylinder, iopb->head, iopb->sector, iopb->data_address,
+           iopb->next_address);
 }
 
 /* The archive views even addresses alone, so an odd one is viewed one byte earlier in the memory that begins one byte later. */
@@ -235,16 +239,17 @@ static bool play_fields(void)
 {
     uint32_t at = (uint32_t)number[0];
     size_t later = at % 2 != 0 && memory_length > 0 ? 1 : 0;
+    rosadenca_iopb iopb = rosadenca_view(memory + later, memory_length - later, at - at % 2);
     fputs("fields", stdout);
-    print_fields(memory + later, memory_length - later, at - at % 2);
+    print_fields(&iopb);
     return true;
 }
 
 static bool play_view(void)
 {
-    uint32_t at = (uint32_t)number[0];
-    printf("view %d", rosadenca_view_number(memory, memory_length, at));
-    print_fields(memory, memory_length, at);
+    rosadenca_iopb iopb = rosadenca_view(memory, memory_length, (uint32_t)number[0]);
+    printf("view %d", iopb.number);
+    print_fields(&iopb);
     return true;
 }
 
@@ -260,7 +265,7 @@ static const struct {
     {"lent", 1, 1, play_lent},         {"walk", 1, 1, play_walk},           {"pick", 1, 1, play_pick},
     {"picks", 0, 256, play_picks},     {"written", 1, 1, play_written},     {"look", 1, 1, play_look},
     {"fields", 1, 1, play_fields},     {"view", 1, 1, play_view},           {"lentwalk", 1, 1, play_lent_walk},
-    {"lentpick", 1, 1, play_lent_pick},
+    {"lentpick", 1, 1, play_lent_pick}, {"steps", 0, 0, play_steps},
 };
 
 /* Plays one line, which is taken apart. Whether it is in the format. */

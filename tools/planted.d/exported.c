@@ -11,19 +11,21 @@ typedef struct {
     size_t length;
 } run;
 
-void inner_rosadenca_walk(rosadenca_lent_walked *, const run *, const run *, const rosadenca_drive *, uint32_t, const run *);
+void inner_rosadenca_walk(rosadenca_walked *, const run *, const run *, const rosadenca_drive *, uint32_t, const run *);
 uint32_t inner_rosadenca_pick(const run *, const run *, const rosadenca_drive *, const run *, size_t, size_t);
-void inner_rosadenca_run_picks(rosadenca_lent_ran *, const run *, const run *, const rosadenca_drive *, const run *, size_t,
+void inner_rosadenca_run_picks(rosadenca_ran *, const run *, const run *, const rosadenca_drive *, const run *, size_t,
                                const run *);
-void inner_rosadenca_run_written(rosadenca_lent_ran *, const run *, const run *, const rosadenca_drive *, const run *, size_t,
+void inner_rosadenca_run_written(rosadenca_ran *, const run *, const run *, const rosadenca_drive *, const run *, size_t,
                                  uint64_t);
 void inner_rosadenca_look(rosadenca_part *, const run *, const rosadenca_drive *, uint32_t);
 uint32_t inner_rosadenca_look_number(const run *, const rosadenca_drive *, uint32_t);
+uint64_t inner_rosadenca_chain_steps(const run *, size_t);
+void inner_rosadenca_view(rosadenca_iopb *, const run *, uint32_t);
 
-rosadenca_lent_walked rosadenca_walk(const uint8_t *memory, size_t memory_length, const uint8_t *image, size_t image_length,
+rosadenca_walked rosadenca_walk(const uint8_t *memory, size_t memory_length, const uint8_t *image, size_t image_length,
                                      rosadenca_drive drive, uint32_t start, rosadenca_record *table, size_t table_length)
 {
-    rosadenca_lent_walked walked;
+    rosadenca_walked walked;
     inner_rosadenca_walk(&walked, &(run){memory, memory_length}, &(run){image, image_length}, &drive, start,
                          &(run){table, table_length});
     return walked;
@@ -37,21 +39,21 @@ uint8_t rosadenca_pick(uint8_t *memory, size_t memory_length, uint8_t *image, si
                                          &(run){table, table_length}, commands, place);
 }
 
-rosadenca_lent_ran rosadenca_run_picks(uint8_t *memory, size_t memory_length, uint8_t *image, size_t image_length,
+rosadenca_ran rosadenca_run_picks(uint8_t *memory, size_t memory_length, uint8_t *image, size_t image_length,
                                        rosadenca_drive drive, rosadenca_record *table, size_t table_length, size_t commands,
                                        const uint8_t *picks, size_t picks_length)
 {
-    rosadenca_lent_ran ran;
+    rosadenca_ran ran;
     inner_rosadenca_run_picks(&ran, &(run){memory, memory_length}, &(run){image, image_length}, &drive, &(run){table, table_length},
                               commands, &(run){picks, picks_length});
     return ran;
 }
 
-rosadenca_lent_ran rosadenca_run_written(uint8_t *memory, size_t memory_length, uint8_t *image, size_t image_length,
+rosadenca_ran rosadenca_run_written(uint8_t *memory, size_t memory_length, uint8_t *image, size_t image_length,
                                          rosadenca_drive drive, rosadenca_record *table, size_t table_length, size_t commands,
                                          uint64_t budget)
 {
-    rosadenca_lent_ran ran;
+    rosadenca_ran ran;
     inner_rosadenca_run_written(&ran, &(run){memory, memory_length}, &(run){image, image_length}, &drive,
                                 &(run){table, table_length}, commands, budget);
     return ran;
@@ -69,30 +71,14 @@ rosadenca_part rosadenca_look(const uint8_t *image, size_t image_length, rosaden
     return part;
 }
 
-/* What is read of an IOPB: one number of the memory and an address. */
-#define READS(type, name)                                                         \
-    uint32_t inner_##name(const run *, uint32_t);                                 \
-    type name(const uint8_t *memory, size_t memory_length, uint32_t at)           \
-    {                                                                             \
-        return (type)inner_##name(&(run){memory, memory_length}, at);             \
-    }
+uint64_t rosadenca_chain_steps(const rosadenca_record *table, size_t table_length, size_t commands)
+{
+    return inner_rosadenca_chain_steps(&(run){table, table_length}, commands);
+}
 
-READS(uint8_t, rosadenca_view_number)
-READS(uint8_t, rosadenca_errs)
-READS(uint8_t, rosadenca_done)
-READS(uint8_t, rosadenca_chen)
-READS(uint8_t, rosadenca_sgm)
-READS(uint8_t, rosadenca_command)
-READS(uint8_t, rosadenca_completion)
-READS(uint8_t, rosadenca_wrpt)
-READS(uint8_t, rosadenca_oncl)
-READS(uint8_t, rosadenca_drdy)
-READS(uint8_t, rosadenca_internal)
-READS(uint8_t, rosadenca_subfunction)
-READS(uint8_t, rosadenca_unit)
-READS(uint16_t, rosadenca_count)
-READS(uint16_t, rosadenca_cylinder)
-READS(uint8_t, rosadenca_head)
-READS(uint8_t, rosadenca_sector)
-READS(uint32_t, rosadenca_data_address)
-READS(uint32_t, rosadenca_next_address)
+rosadenca_iopb rosadenca_view(const uint8_t *memory, size_t memory_length, uint32_t at)
+{
+    rosadenca_iopb iopb;
+    inner_rosadenca_view(&iopb, &(run){memory, memory_length}, at);
+    return iopb;
+}
