@@ -99,9 +99,24 @@ module _ (d : Drive) (n : ℕ) (ps m₀ i₀ : List ℕ) (t : List Record) (m i 
   unfolding onePick
   passed-one e = pass _ _ _ (ne-eqb _ _ (λ q. e (sym same-number ∙ q)))
 
-  pub pick-passed-over : (to : List ℕ) → Searched now-table to → k < length ps → (placeNumber now-table n place ≡ 0 → ⊥)
-      → PicksLeft d n ps m₀ i₀ t m i taken to steps (refused + 1) (k + 1)
-  pick-passed-over to q h e =
+  -- a search has got further
+  pub searched-on : (to : List ℕ) → Searched now-table to → PicksLeft d n ps m₀ i₀ t m i taken to steps refused k
+  searched-on to q =
+      record {
+        most = w .most;
+        counted = w .counted;
+        memory-length = w .memory-length;
+        image-length = w .image-length;
+        full = w .full;
+        long = w .long;
+        passed = w .passed;
+        search = q;
+        over = w .over;
+        left = w .left;
+      }
+
+  pub pick-passed-over : k < length ps → (placeNumber now-table n place ≡ 0 → ⊥) → PicksLeft d n ps m₀ i₀ t m i taken searched steps (refused + 1) (k + 1)
+  pick-passed-over h e =
       record {
         most = omega arith;
         counted = omega (arith, w .counted);
@@ -110,7 +125,7 @@ module _ (d : Drive) (n : ℕ) (ps m₀ i₀ : List ℕ) (t : List Record) (m i 
         full = w .full;
         long = w .long;
         passed = w .passed;
-        search = q;
+        search = w .search;
         over = w .over;
         left = w .left ∙ next-pick d n k ps (tally steps refused now-state) h ∙ ap (picksFrom d n (drop (k + 1) ps)) (passed-one e);
       }
@@ -121,7 +136,7 @@ module _ (d : Drive) (n : ℕ) (ps m₀ i₀ : List ℕ) (t : List Record) (m i 
     abbrev next-taken : List ℕ
     next-taken = set taken place (r .taken + 1)
 
-    table-stepped : tableWith next-taken t ≡ set now-table place (stepped (getD now-table place noRecord))
+    pub table-stepped : tableWith next-taken t ≡ set now-table place (stepped (getD now-table place noRecord))
     table-stepped =
         set-with taken t place (r .taken + 1) (omega (arith, w .long))
         ∙ ap (set now-table place)
@@ -130,16 +145,18 @@ module _ (d : Drive) (n : ℕ) (ps m₀ i₀ : List ℕ) (t : List Record) (m i 
         ∙ with-next r
         ∙ ap stepped er)
 
-    pub pick-ready : placeNumber now-table n place ≡ 0 → (1 ≤ remaining r) × Ready 1 r (lent m i)
-    pick-ready e =
-        let f = place-free now-table n place e in
-        let some : 1 ≤ remaining r = rw er (unfinished-some (getD now-table place noRecord) (f .unfinished)) in
-        (some, ready d (lent m i) r 1 (store-right d n now-state (w .passed)) (ap (badRecord d (lent m i)) er ∙ none-bad d n now-state (w .passed) place (f .inUse)) some)
+    pub some-left : placeNumber now-table n place ≡ 0 → 1 ≤ remaining r
+    some-left e = rw er (unfinished-some (getD now-table place noRecord) (place-free now-table n place e .unfinished))
 
-    pub pick-taken : (m′ i′ to : List ℕ) → Searched now-table to → k < length ps → placeNumber now-table n place ≡ 0 → lent m′ i′ ≡ step d r (lent m i)
-        → PicksLeft d n ps m₀ i₀ t m′ i′ next-taken to (steps + 1) refused (k + 1)
+    pub pick-ready : placeNumber now-table n place ≡ 0 → (j : ℕ) → j ≤ remaining r → Ready j r (lent m i)
+    pick-ready e j l =
+        ready d (lent m i) r j (store-right d n now-state (w .passed))
+        (ap (badRecord d (lent m i)) er ∙ none-bad d n now-state (w .passed) place (place-free now-table n place e .inUse)) l
+
+    pub pick-taken : (m′ i′ : List ℕ) → k < length ps → placeNumber now-table n place ≡ 0 → lent m′ i′ ≡ step d r (lent m i)
+        → PicksLeft d n ps m₀ i₀ t m′ i′ next-taken searched (steps + 1) refused (k + 1)
     unfolding stepAt
-    pick-taken m′ i′ to q h e es =
+    pick-taken m′ i′ h e es =
         let x = getD now-table place noRecord in
         let moved = es ∙ ap (λ (y : Record). step d y (lent m i)) er in
         let same : stateOf m′ i′ (tableWith next-taken t) ≡ stepAt d place now-state = λ j. record { table = table-stepped j; store = moved j } in
@@ -155,7 +172,7 @@ module _ (d : Drive) (n : ℕ) (ps m₀ i₀ : List ℕ) (t : List Record) (m i 
           full = w .full;
           long = length-set taken place (r .taken + 1) ∙ w .long;
           passed = subst (Passed d n) (sym same) (passed-step d n place now-state e (w .passed));
-          search = subst (λ (u : List Record). Searched u to) (sym table-stepped) (searched-still now-table to place q in-now);
+          search = subst (λ (u : List Record). Searched u searched) (sym table-stepped) (searched-still now-table place in-now searched (w .search));
           over = omega (arith, w .over, fewer, ap (λ (u : State). stepsLeft (u .table) n) same);
           left =
               w .left

@@ -1,11 +1,18 @@
--- The two lent slices as a store: bytes put into memory, or onto the disk of unit 0, are put into that slice.
-use mathlib.Core.Path.{_≡_, refl, fun-ext}
+-- The two lent slices as a store: bytes put into memory, or onto the disk of unit 0, are put into that slice; and what a step leaves of
+-- such a store is such a store.
+use mathlib.Core.Path.{_≡_, refl, sym, fun-ext}
 use Prim.Native.Nat.{ℕ, zero, suc}
 use mathlib.Core.Bool.{cond}
-use mathlib.Core.List.{List}
+use mathlib.Core.List.{List, [], _∷_}
+use lib.ListN.{length}
 use lib.Dec.{eqb·suc-zero}
 use lib.Seq.{sets}
-use Rattle.meaning.specs.Store.{Space, memory, disk, same, lent, theDisk, put}
+use native.Mathlib.Omega.{arith}
+use Rattle.meaning.specs.declared.Drive.{Drive}
+use Rattle.meaning.specs.declared.Record.{Record}
+use Rattle.meaning.specs.Store.{Space, memory, disk, same, Store, lent, theDisk, put}
+use Rattle.meaning.specs.Step.{step}
+use Rattle.meaning.proofs.Still.{step-keeps-lengths}
 use Rattle.meaning.proofs.Rows.{pass}
 
 module _ (m i bytes : List ℕ) (a : ℕ) where
@@ -26,3 +33,21 @@ module _ (m i bytes : List ℕ) (a : ℕ) where
       go memory = refl
       go (disk zero) = refl
       go (disk (suc u)) = pass _ _ _ (eqb·suc-zero u)
+
+-- a store with nothing on the disks of other units
+lent-all : (s : Store) → ((u : ℕ) → s (disk (suc u)) ≡ []) → lent (s memory) (s theDisk) ≡ s
+lent-all s e = fun-ext go
+  where
+    go : (q : Space) → lent (s memory) (s theDisk) q ≡ s q
+    go memory = refl
+    go (disk zero) = refl
+    go (disk (suc u)) = sym (e u)
+
+empty : (l : List ℕ) → length l ≡ 0 → l ≡ []
+empty [] e = refl
+empty (x ∷ l) e = absurd (omega arith)
+
+pub lent-step : (d : Drive) (r : Record) (m i : List ℕ) → let s = step d r (lent m i) in lent (s memory) (s theDisk) ≡ s
+lent-step d r m i =
+    let s = step d r (lent m i) in
+    lent-all s (λ u. empty (s (disk (suc u))) (step-keeps-lengths d r (lent m i) (disk (suc u))))

@@ -11,6 +11,7 @@ pub mod Taken
 pub mod Opening
 pub mod Runs
 pub mod ByPicks
+pub mod Again
 pub mod Written
 pub mod Longer
 pub mod Kept

@@ -7,14 +7,15 @@ use native.Mathlib.Omega.{arith}
 use mathlib.Core.Bool.{Bool, true, false, not, _&&_, _||_, or-assoc}
 use mathlib.Core.List.{List, [], _∷_, _++_}
 use lib.ListN.{length, getD, set, take, replicate, length-set}
-use lib.Seq.{take-suc, getD-set-same, getD-set-other}
+use lib.Seq.{take-suc, take-set-le, getD-set-same, getD-set-other}
 use borrow.Author.Tests.{leb-true, le-leb}
 use Rattle.meaning.specs.declared.Record.{Record}
 use Rattle.meaning.specs.Each.{someOf}
 use Rattle.meaning.specs.Command.{stepsOf, finished, noRecord}
 use Rattle.meaning.specs.Touch.{touched, conflict}
 use Rattle.meaning.specs.Step.{stepped}
-use Rattle.meaning.proofs.Rows.{or-none, or-false}
+use Rattle.meaning.specs.Pick.{waits}
+use Rattle.meaning.proofs.Rows.{or-none, or-false, and-first, and-second}
 use Rattle.meaning.proofs.Tests.{and-no, and-false}
 use Rattle.meaning.proofs.Means.{Means, holds, fails, is-true, means-itself, means-eq, means-some}
 
@@ -49,6 +50,13 @@ module _ {A : Type 0} (z : A) (f : A → Bool) where
 -- an earlier command e makes r wait
 abbrev pub blocking : Record → Record → Bool
 blocking r e = not (finished e) && conflict e r
+
+-- a finished command blocks nothing, and any other by its conflict
+pub finished-free : (r e : Record) → finished e ≡ true → blocking r e ≡ false
+finished-free r e f = and-first (not (finished e)) (conflict e r) (ap not f)
+
+pub by-conflict : (r e : Record) (b : Bool) → finished e ≡ false → conflict e r ≡ b → blocking r e ≡ b
+by-conflict r e b f c = and-second (not (finished e)) (conflict e r) (ap not f) ∙ c
 
 -- what r touches does not change with its steps
 stepped-waits : (r : Record) → blocking (stepped r) ≡ blocking r
@@ -110,7 +118,7 @@ searched-to t searched q k w h l e =
     clear p (fails n) = rw (getD-set-other searched q p k 0 n) (w .free p)
 
 -- a step is taken at q
-module _ (t : List Record) (searched : List ℕ) (q : ℕ) (w : Searched t searched) (h : q < length t) where
+module _ (t : List Record) (q : ℕ) (h : q < length t) where
   abbrev after : List Record
   after = set t q (stepped (getD t q noRecord))
 
@@ -118,8 +126,8 @@ module _ (t : List Record) (searched : List ℕ) (q : ℕ) (w : Searched t searc
   same-waits p (holds s) = rw (s, getD-set-same t q (stepped (getD t q noRecord)) noRecord h) (stepped-waits (getD t q noRecord))
   same-waits p (fails n) = ap blocking (getD-set-other t q p (stepped (getD t q noRecord)) noRecord n)
 
-  pub searched-still : Searched after searched
-  searched-still =
+  pub searched-still : (searched : List ℕ) → Searched t searched → Searched after searched
+  searched-still searched w =
       record {
         long = w .long;
         within = w .within;
@@ -130,3 +138,10 @@ module _ (t : List Record) (searched : List ℕ) (q : ℕ) (w : Searched t searc
             ap (λ (f : Record → Bool). someOf f (take n after)) (same-waits p (means-eq p q))
             ∙ none-set noRecord (blocking r) t n q (stepped e) (stepped-blocks r e) (w .free p);
       }
+
+  -- and whoever waits at q waits as before
+  pub waits-still : waits after q ≡ waits t q
+  unfolding waits
+  waits-still =
+      ap (λ (f : Record → Bool). someOf f (take q after)) (same-waits q (means-eq q q))
+      ∙ ap (someOf (blocking (getD t q noRecord))) (take-set-le q t q (stepped (getD t q noRecord)) (omega arith))

@@ -1,24 +1,29 @@
--- What a command touches, by its kind, in the forms in which the code tests it: a transfer's data, status bytes and sectors, and any other
--- command's status bytes. A range of memory meets no sectors, and a range of sectors no memory.
-use mathlib.Core.Path.{_≡_, refl, ap, _∙_}
-use Prim.Native.Nat.{ℕ, _*_}
-use native.Mathlib.Nat.{add-zero}
-use mathlib.Core.Bool.{Bool, true, false, _||_, true≢false, false≢true}
+-- The rules' conflict is what the code tests. What a command touches depends on its kind, and a range of memory meets no sectors; so a
+-- conflict is a test of five pairs of ranges and of the kinds of both, and that the two tests agree is seen by trying all values.
+use mathlib.Core.Path.{_≡_, refl, sym, ap, ap₂, _∙_}
+use Prim.Native.Nat.{ℕ, _+_, _*_, max, min}
+use native.Mathlib.Nat.{add-zero, max-comm, min-comm}
+use mathlib.Core.Bool.{Bool, true, false, not, _&&_, _||_, cond, true≢false}
 use mathlib.Core.List.{List, _++_}
+use lib.Dec.{ltb}
 use Rattle.meaning.specs.declared.Record.{Record}
 use Rattle.meaning.specs.Each.{someOf}
 use Rattle.meaning.specs.Store.{theUnit}
 use Rattle.meaning.specs.Sectors.{sectorBytes}
 use Rattle.meaning.specs.Ranges.{Range, bytes, sectorsOf, crosses, overlap}
 use Rattle.meaning.specs.Command.{reads, writes, transfers}
-use Rattle.meaning.specs.Touch.{Touched, touchedBy, touched, disturbs}
+use Rattle.meaning.specs.Touch.{Touched, touchedBy, touched, disturbs, conflict}
+use Rattle.meaning.proofs.Rows.{and-true, or-second}
 use Rattle.meaning.proofs.Tests.{or-no}
+use Rattle.meaning.proofs.Means.{is-false, means-and}
+use Rattle.meaning.proofs.Conditions.{means-reads, means-writes, not-both}
+use Rattle.board.specs.Meeting.{statusStatus, dataData, sectorsSectors, statusData, transfersMeet, meeting}
+
+-- ---- ranges against what a command touches
 
 -- all that a command touches meets a range
-abbrev pub meets : Range → Touched → Bool
+abbrev meets : Range → Touched → Bool
 meets x y = someOf (overlap x) (y .read ++ y .written)
-
--- ---- a range against what s touches
 
 module _ (a n : ℕ) (s : Record) where
   abbrev data-met : Bool
@@ -30,71 +35,116 @@ module _ (a n : ℕ) (s : Record) where
   abbrev sectors-met : Bool
   sectors-met = crosses a n (s .sector) (s .count)
 
-  bytes-by : (rd wr : Bool) → (rd || wr) ≡ true → meets (bytes a n) (touchedBy rd wr s) ≡ (data-met || status-met)
-  bytes-by true wr e = rw (add-zero (s .address), or-no status-met) refl
-  bytes-by false true e = rw (add-zero (s .address), or-no status-met) refl
-  bytes-by false false e = absurd (false≢true e)
+  bytes-by : (rd wr : Bool) → meets (bytes a n) (touchedBy rd wr s) ≡ cond (rd || wr) (data-met || status-met) status-met
+  bytes-by true wr = rw (add-zero (s .address), or-no status-met) refl
+  bytes-by false true = rw (add-zero (s .address), or-no status-met) refl
+  bytes-by false false = or-no status-met
 
-  status-by : (rd wr : Bool) → (rd || wr) ≡ false → meets (bytes a n) (touchedBy rd wr s) ≡ status-met
-  status-by true wr e = absurd (true≢false e)
-  status-by false true e = absurd (true≢false e)
-  status-by false false e = or-no status-met
+  sectors-by : (rd wr : Bool) → meets (sectorsOf theUnit a n) (touchedBy rd wr s) ≡ cond (rd || wr) sectors-met false
+  sectors-by true wr = or-no sectors-met
+  sectors-by false true = or-no sectors-met
+  sectors-by false false = refl
 
-  sectors-by : (rd wr : Bool) → (rd || wr) ≡ true → meets (sectorsOf theUnit a n) (touchedBy rd wr s) ≡ sectors-met
-  sectors-by true wr e = or-no sectors-met
-  sectors-by false true e = or-no sectors-met
-  sectors-by false false e = absurd (false≢true e)
-
-  none-by : (rd wr : Bool) → (rd || wr) ≡ false → meets (sectorsOf theUnit a n) (touchedBy rd wr s) ≡ false
-  none-by true wr e = absurd (true≢false e)
-  none-by false true e = absurd (true≢false e)
-  none-by false false e = refl
-
-  pub bytes-of-transfer : transfers s ≡ true → meets (bytes a n) (touched s) ≡ (data-met || status-met)
+  bytes-of : meets (bytes a n) (touched s) ≡ cond (transfers s) (data-met || status-met) status-met
   unfolding touched
-  bytes-of-transfer t = bytes-by (reads s) (writes s) t
+  bytes-of = bytes-by (reads s) (writes s)
 
-  pub bytes-of-other : transfers s ≡ false → meets (bytes a n) (touched s) ≡ status-met
+  sectors-of : meets (sectorsOf theUnit a n) (touched s) ≡ cond (transfers s) sectors-met false
   unfolding touched
-  bytes-of-other t = status-by (reads s) (writes s) t
+  sectors-of = sectors-by (reads s) (writes s)
 
-  pub sectors-of-transfer : transfers s ≡ true → meets (sectorsOf theUnit a n) (touched s) ≡ sectors-met
-  unfolding touched
-  sectors-of-transfer t = sectors-by (reads s) (writes s) t
+-- ---- what r writes against what s touches
 
-  pub sectors-of-other : transfers s ≡ false → meets (sectorsOf theUnit a n) (touched s) ≡ false
-  unfolding touched
-  sectors-of-other t = none-by (reads s) (writes s) t
+-- by whether r reads and whether it writes: what its data, its status bytes and its sectors meet
+abbrev by-kind : Bool → Bool → Bool → Bool → Bool → Bool
+by-kind rd wr d st se = cond rd (d || st) (cond wr (se || st) st)
 
--- ---- what r writes against what y touches, by the kind of r
+disturbs-by : (r : Record) (y : Touched) (rd wr : Bool) → disturbs (touchedBy rd wr r) y
+    ≡ by-kind rd wr (meets (bytes (r .address) (sectorBytes * r .count)) y) (meets (bytes (r .iopb) 4) y) (meets (sectorsOf theUnit (r .sector) (r .count)) y)
+unfolding disturbs
+disturbs-by r y true wr =
+    ap₂ (λ (k : ℕ) (b : Bool). meets (bytes k (sectorBytes * r .count)) y || b) (add-zero (r .address)) (or-no (meets (bytes (r .iopb) 4) y))
+disturbs-by r y false true = ap (λ (b : Bool). meets (sectorsOf theUnit (r .sector) (r .count)) y || b) (or-no (meets (bytes (r .iopb) 4) y))
+disturbs-by r y false false = or-no (meets (bytes (r .iopb) 4) y)
 
-module _ (r : Record) (y : Touched) where
-  abbrev data-meets : Bool
-  data-meets = meets (bytes (r .address) (sectorBytes * r .count)) y
+-- the five pairs of ranges, and the kinds of both
+abbrev one-way : Bool → Bool → Bool → Bool → Bool → Bool → Bool → Bool → Bool
+one-way rd wr other ss sd ds dd kk = by-kind rd wr (cond other (dd || ds) ds) (cond other (sd || ss) ss) (cond other kk false)
 
-  abbrev status-meets : Bool
-  status-meets = meets (bytes (r .iopb) 4) y
+disturbs-is : (r s : Record) → disturbs (touched r) (touched s)
+    ≡ one-way (reads r) (writes r) (transfers s) (crosses (r .iopb) 4 (s .iopb) 4) (crosses (r .iopb) 4 (s .address) (sectorBytes * s .count))
+    (crosses (r .address) (sectorBytes * r .count) (s .iopb) 4) (dataData r s) (sectorsSectors r s)
+unfolding touched
+disturbs-is r s =
+    disturbs-by r (touched s) (reads r) (writes r)
+    ∙ (λ j. by-kind (reads r) (writes r) (bytes-of (r .address) (sectorBytes * r .count) s j) (bytes-of (r .iopb) 4 s j) (sectors-of (r .sector) (r .count) s j))
 
-  abbrev sectors-meet : Bool
-  sectors-meet = meets (sectorsOf theUnit (r .sector) (r .count)) y
+crosses-swap : (a n b m : ℕ) → crosses a n b m ≡ crosses b m a n
+unfolding crosses
+crosses-swap a n b m = ap₂ ltb (max-comm a b) (min-comm (a + n) (b + m))
 
-  pub read-disturbs : reads r ≡ true → disturbs (touched r) y ≡ (data-meets || status-meets)
-  unfolding disturbs touched
-  read-disturbs e =
-      ap (λ (b : Bool). disturbs (touchedBy b (writes r) r) y) e
-      ∙ ap (λ (k : ℕ). meets (bytes k (sectorBytes * r .count)) y || (status-meets || false)) (add-zero (r .address))
-      ∙ ap (λ (b : Bool). data-meets || b) (or-no status-meets)
+-- ---- both ways are what the code tests
 
-  pub write-disturbs : reads r ≡ false → writes r ≡ true → disturbs (touched r) y ≡ (sectors-meet || status-meets)
-  unfolding disturbs touched
-  write-disturbs e w =
-      ap (λ (b : Bool). disturbs (touchedBy b (writes r) r) y) e
-      ∙ ap (λ (b : Bool). disturbs (touchedBy false b r) y) w
-      ∙ ap (λ (b : Bool). sectors-meet || b) (or-no status-meets)
+abbrev two-ways : Bool → Bool → Bool → Bool → Bool → Bool → Bool → Bool → Bool → Bool
+two-ways rr wr rs ws ss sd ds dd kk = one-way rr wr (rs || ws) ss sd ds dd kk || one-way rs ws (rr || wr) ss ds sd dd kk
 
-  pub other-disturbs : reads r ≡ false → writes r ≡ false → disturbs (touched r) y ≡ status-meets
-  unfolding disturbs touched
-  other-disturbs e w =
-      ap (λ (b : Bool). disturbs (touchedBy b (writes r) r) y) e
-      ∙ ap (λ (b : Bool). disturbs (touchedBy false b r) y) w
-      ∙ or-no status-meets
+abbrev tested : Bool → Bool → Bool → Bool → Bool → Bool → Bool → Bool → Bool → Bool
+tested rr wr rs ws ss sd ds dd kk =
+    ss || (((rs || ws) && sd) || (((rr || wr) && ds) || ((rr || wr) && ((rs || ws) && (((rr || rs) && dd) || (not (rr && rs) && kk))))))
+
+-- two tests give the same
+abbrev alike : Bool → Bool → Bool
+alike true b = b
+alike false b = not b
+
+alike-same : (a b : Bool) → alike a b ≡ true → a ≡ b
+alike-same true true e = refl
+alike-same true false e = absurd (true≢false (sym e))
+alike-same false true e = absurd (true≢false (sym e))
+alike-same false false e = refl
+
+abbrev both-values : (Bool → Bool) → Bool
+both-values f = f true && f false
+
+any-value : (f : Bool → Bool) → both-values f ≡ true → (b : Bool) → f b ≡ true
+any-value f e true = and-true (f true) (f false) e .0
+any-value f e false = and-true (f true) (f false) e .1
+
+-- no command both reads and writes
+abbrev agree : Bool → Bool → Bool → Bool → Bool → Bool → Bool → Bool → Bool → Bool
+agree rr wr rs ws ss sd ds dd kk = (rr && wr) || ((rs && ws) || alike (two-ways rr wr rs ws ss sd ds dd kk) (tested rr wr rs ws ss sd ds dd kk))
+
+all-agree : both-values (λ rr. both-values (λ wr. both-values (λ rs. both-values (λ ws. both-values (λ ss. both-values (λ sd. both-values (λ ds. both-values (λ dd. both-values (λ kk. agree rr wr rs ws ss sd ds dd kk))))))))) ≡ true
+all-agree = refl
+
+agree-at : (rr wr rs ws ss sd ds dd kk : Bool) → agree rr wr rs ws ss sd ds dd kk ≡ true
+agree-at rr wr rs ws ss sd ds dd kk =
+    let e0 = any-value (λ rr. both-values (λ wr. both-values (λ rs. both-values (λ ws. both-values (λ ss. both-values (λ sd. both-values (λ ds. both-values (λ dd. both-values (λ kk. agree rr wr rs ws ss sd ds dd kk))))))))) all-agree rr in
+    let e1 = any-value (λ wr. both-values (λ rs. both-values (λ ws. both-values (λ ss. both-values (λ sd. both-values (λ ds. both-values (λ dd. both-values (λ kk. agree rr wr rs ws ss sd ds dd kk)))))))) e0 wr in
+    let e2 = any-value (λ rs. both-values (λ ws. both-values (λ ss. both-values (λ sd. both-values (λ ds. both-values (λ dd. both-values (λ kk. agree rr wr rs ws ss sd ds dd kk))))))) e1 rs in
+    let e3 = any-value (λ ws. both-values (λ ss. both-values (λ sd. both-values (λ ds. both-values (λ dd. both-values (λ kk. agree rr wr rs ws ss sd ds dd kk)))))) e2 ws in
+    let e4 = any-value (λ ss. both-values (λ sd. both-values (λ ds. both-values (λ dd. both-values (λ kk. agree rr wr rs ws ss sd ds dd kk))))) e3 ss in
+    let e5 = any-value (λ sd. both-values (λ ds. both-values (λ dd. both-values (λ kk. agree rr wr rs ws ss sd ds dd kk)))) e4 sd in
+    let e6 = any-value (λ ds. both-values (λ dd. both-values (λ kk. agree rr wr rs ws ss sd ds dd kk))) e5 ds in
+    let e7 = any-value (λ dd. both-values (λ kk. agree rr wr rs ws ss sd ds dd kk)) e6 dd in
+    any-value (λ kk. agree rr wr rs ws ss sd ds dd kk) e7 kk
+
+never-both : (r : Record) → (reads r && writes r) ≡ false
+never-both r = is-false (means-and (means-reads r) (means-writes r)) (λ p. not-both r (p .0) (p .1))
+
+pub conflict-is : (r s : Record) → conflict r s ≡ meeting r s
+unfolding conflict
+conflict-is r s =
+    let ss = crosses (r .iopb) 4 (s .iopb) 4 in
+    let sd = crosses (r .iopb) 4 (s .address) (sectorBytes * s .count) in
+    let ds = crosses (s .iopb) 4 (r .address) (sectorBytes * r .count) in
+    let dd = dataData r s in
+    let kk = sectorsSectors r s in
+    let there = disturbs-is r s ∙ ap (λ (b : Bool). one-way (reads r) (writes r) (transfers s) ss sd b dd kk) (crosses-swap (r .address) (sectorBytes * r .count) (s .iopb) 4) in
+    let back = disturbs-is s r
+    ∙ (λ j. one-way (reads s) (writes s) (transfers r) (crosses-swap (s .iopb) 4 (r .iopb) 4 j) ds (crosses-swap (s .address) (sectorBytes * s .count) (r .iopb) 4 j)
+    (crosses-swap (s .address) (sectorBytes * s .count) (r .address) (sectorBytes * r .count) j) (crosses-swap (s .sector) (s .count) (r .sector) (r .count) j))
+    in
+    let tried = agree-at (reads r) (writes r) (reads s) (writes s) ss sd ds dd kk in
+    let same = sym (or-second (reads s && writes s) _ (never-both s)) ∙ sym (or-second (reads r && writes r) _ (never-both r)) ∙ tried in
+    ap₂ (λ (x y : Bool). x || y) there back ∙ alike-same (two-ways (reads r) (writes r) (reads s) (writes s) ss sd ds dd kk) (tested (reads r) (writes r) (reads s) (writes s) ss sd ds dd kk) same

@@ -9,14 +9,12 @@ use meaning::Drive;
 use meaning::PickedTable;
 use meaning::Record;
 ghost use mathlib.Core.Path.{_≡_};
-ghost use mathlib.Core.Bool.{not, _&&_, _||_};
+ghost use mathlib.Core.Bool.{_||_};
 ghost use mathlib.Core.List.{[]};
 ghost use lib.Dec.{ltb};
 ghost use Rattle.meaning.specs.Store.{lent};
 ghost use Rattle.meaning.specs.State.{stateOf, mostCommands};
 ghost use Rattle.meaning.specs.Sizes.{storeWrong};
-ghost use Rattle.meaning.specs.Command.{finished};
-ghost use Rattle.meaning.specs.Touch.{conflict};
 ghost use Rattle.meaning.specs.Pick as pick;
 ghost use Rattle.board.specs.Changes.{PickChanges, refusedPick};
 
@@ -88,18 +86,9 @@ pub(crate) fn bad_record(memory: &[u8], d: Drive, r: Record) -> bool
     false
 }
 
-// An earlier command e is unfinished and conflicts with r (Pick 6).
-pub(crate) fn blocks(e: Record, r: Record) -> bool
-    ensures { λ b. ⌜ b ≡ (not (finished e) && conflict e r) ⌝ }
-{
-    if command::finished(e) {
-        return false;
-    }
-    touch::conflict(e, r)
-}
-
 // A pick beneath both faces: `length` is how many records the caller's table has, of which these are the first. Both loops that read the
-// table stand here, since a table that is passed on is copied.
+// table stand here, since a table that is passed on is copied. One lifetime for what is lent, as in the two runs, so that the three calls
+// over a lent table are argued once.
 pub fn pick_record<'a>(
     memory: &'a mut [u8],
     image: &'a mut [u8],
@@ -133,7 +122,11 @@ pub fn pick_record<'a>(
     }
     let mut earlier = 0;
     while earlier < place {
-        if blocks(table[earlier], r) {
+        if command::finished(table[earlier]) {
+            earlier += 1;
+            continue;
+        }
+        if touch::conflict(table[earlier], r) {
             return refused(6);
         }
         earlier += 1;

@@ -4,19 +4,21 @@ use crate::RECORDS;
 use crate::command;
 use crate::pick;
 use crate::step;
+use crate::touch;
 use meaning::Drive;
 use meaning::Ran;
 use meaning::RanTable;
 use meaning::Record;
 ghost use mathlib.Core.Path.{_≡_};
-ghost use mathlib.Core.Bool.{Bool, _&&_, _||_, cond};
-ghost use Prim.Native.Nat.{_+_, _*_, _≤_, min};
+ghost use Prim.Native.Nat.{_+_, _*_, _≤_, _<_, min};
+ghost use lib.ListN.{length};
 ghost use mathlib.Core.List.{[]};
 ghost use Rattle.meaning.specs.Store.{lent};
 ghost use Rattle.meaning.specs.State.{stateOf};
 ghost use Rattle.meaning.specs.Run as run;
 ghost use Rattle.board.specs.Changes.{RunTakes, refusedRun, tableWith};
 ghost use Rattle.board.specs.Opening.{seenWith, firstNumber};
+ghost use Rattle.board.specs.Alike.{Alike};
 
 // What a run answers and changes: its answer, and the steps taken of each of the 32 records after it, as they were on a refusal.
 pub struct RanTaken {
@@ -109,10 +111,28 @@ fn fewer(budget: u64, left: u32) -> u32
     }
 }
 
+// How many picks, from one on, name the same place, as far as it has steps left.
+fn picks_alike(picks: &[u8], from: usize, left: u32) -> u32
+    requires { ⌜ (from < length (now picks)) × (1 ≤ left) ⌝ }
+    ensures { λ n. ⌜ Alike (now (picks .entry)) from left n ⌝ }
+{
+    let place = picks[from];
+    let most = fewer((picks.len() - from) as u64, left);
+    let mut n = 1;
+    while n < most {
+        if picks[from + n as usize] != place {
+            return n;
+        }
+        n += 1;
+    }
+    n
+}
+
 // A run by picks beneath both faces: `length` is how many records the caller's table has, of which these are the first. All loops that
 // read the table stand here, since a table that is passed on is copied. What two commands touch does not change with their steps, and a
 // command only ever comes nearer to its end: an earlier command that once did not block a place never blocks it again. So the search of
-// a pick goes on where the last one at its place stopped: `searched` holds how many earlier commands are known not to block it.
+// a pick goes on where the last one at its place stopped: `searched` holds how many earlier commands are known not to block it. Picks in
+// a row at a place that may go take their steps at once.
 pub fn picks_taken<'a>(
     memory: &'a mut [u8],
     image: &'a mut [u8],
@@ -148,7 +168,8 @@ pub fn picks_taken<'a>(
     let mut passed: u64 = 0;
     let mut next = 0;
     'picks: while next < picks.len() {
-        let place = picks[next] as usize;
+        let at = next;
+        let place = picks[at] as usize;
         next += 1;
         if commands <= place {
             passed += 1;
@@ -161,7 +182,12 @@ pub fn picks_taken<'a>(
         }
         let mut earlier = searched[place];
         while earlier < place {
-            if pick::blocks(command::with_taken(table[earlier], taken[earlier]), r) {
+            let e = command::with_taken(table[earlier], taken[earlier]);
+            if command::finished(e) {
+                earlier += 1;
+                continue;
+            }
+            if touch::conflict(table[earlier], r) {
                 searched[place] = earlier;
                 passed += 1;
                 continue 'picks;
@@ -169,9 +195,11 @@ pub fn picks_taken<'a>(
             earlier += 1;
         }
         searched[place] = earlier;
-        step::take_steps(memory, image, d, r, 1);
-        taken[place] = r.taken + 1;
-        steps += 1;
+        let n = picks_alike(picks, at, command::remaining(r));
+        step::take_steps(memory, image, d, r, n);
+        taken[place] = r.taken + n;
+        steps += n as u64;
+        next = at + n as usize;
     }
     let ran = Ran {
         steps,

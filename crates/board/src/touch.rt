@@ -1,16 +1,13 @@
-// What a command reads and writes, and whether two commands conflict, decided on ranges: data against data, data against status
-// bytes, status against status, sectors against sectors, each where either writes, over all the sectors and data of both.
+// Whether two commands conflict, decided on ranges: status bytes against status bytes and data, data against data, sectors against
+// sectors, each where one of the two writes there, over all the data and sectors of both. Each pair of ranges is tested once.
 use crate::command;
 use chain::ranges;
 use meaning::Record;
 ghost use mathlib.Core.Path.{_≡_};
-ghost use mathlib.Core.List.{_++_};
-ghost use Rattle.meaning.specs.Each.{someOf};
-ghost use Rattle.meaning.specs.Store.{theUnit};
 ghost use Prim.Native.Nat.{_*_};
 ghost use Rattle.meaning.specs.Sectors.{sectorBytes};
-ghost use Rattle.meaning.specs.Ranges.{overlap, bytes, sectorsOf};
 ghost use Rattle.meaning.specs.Touch as touch;
+ghost use Rattle.board.specs.Meeting as meeting;
 
 // A close writes the first four bytes of its IOPB (Step 5).
 const STATUS_BYTES: u32 = 4;
@@ -22,54 +19,69 @@ fn data_bytes(r: Record) -> u32
     drive::SECTOR_BYTES as u32 * r.count as u32
 }
 
-// n bytes of memory from a on have one in common with those that s reads or writes.
-fn meets_bytes(a: u32, n: u32, s: Record) -> bool
-    ensures { λ r. ⌜ r ≡ someOf (overlap (bytes a n)) (touch.touched s .read ++ touch.touched s .written) ⌝ }
+// The status bytes of r have one in common with the data of s, if s has data.
+fn status_meets_data(r: Record, s: Record) -> bool
+    ensures { λ b. ⌜ b ≡ meeting.statusData r s ⌝ }
 {
     if command::transfers(s) {
-        if ranges::crosses(a, n, s.address, data_bytes(s)) {
-            return true;
-        }
-        return ranges::crosses(a, n, s.iopb, STATUS_BYTES);
-    }
-    ranges::crosses(a, n, s.iopb, STATUS_BYTES)
-}
-
-// n sectors from a on have one in common with those that s reads or writes.
-fn meets_sectors(a: u32, n: u32, s: Record) -> bool
-    ensures { λ r. ⌜ r ≡ someOf (overlap (sectorsOf theUnit a n)) (touch.touched s .read ++ touch.touched s .written) ⌝ }
-{
-    if command::transfers(s) {
-        return ranges::crosses(a, n, s.sector, s.count as u32);
+        return ranges::crosses(r.iopb, STATUS_BYTES, s.address, data_bytes(s));
     }
     false
 }
 
-// r writes a byte or sector that s reads or writes.
-fn disturbs(r: Record, s: Record) -> bool
-    ensures { λ b. ⌜ b ≡ touch.disturbs (touch.touched r) (touch.touched s) ⌝ }
+// The data of two commands has a byte in common.
+fn data_meets(r: Record, s: Record) -> bool
+    ensures { λ b. ⌜ b ≡ meeting.dataData r s ⌝ }
 {
-    if command::reads(r) {
-        if meets_bytes(r.address, data_bytes(r), s) {
-            return true;
-        }
-        return meets_bytes(r.iopb, STATUS_BYTES, s);
-    }
-    if command::writes(r) {
-        if meets_sectors(r.sector, r.count as u32, s) {
-            return true;
-        }
-        return meets_bytes(r.iopb, STATUS_BYTES, s);
-    }
-    meets_bytes(r.iopb, STATUS_BYTES, s)
+    ranges::crosses(r.address, data_bytes(r), s.address, data_bytes(s))
 }
 
-// Two commands conflict: one of them writes a byte or sector that the other reads or writes.
+// The sectors of two commands have one in common.
+fn sectors_meet(r: Record, s: Record) -> bool
+    ensures { λ b. ⌜ b ≡ meeting.sectorsSectors r s ⌝ }
+{
+    ranges::crosses(r.sector, r.count as u32, s.sector, s.count as u32)
+}
+
+// Two transfers have data or sectors in common, where one of them writes there: a Read writes its data, a Write its sectors.
+fn transfers_meet(r: Record, s: Record) -> bool
+    ensures { λ b. ⌜ b ≡ meeting.transfersMeet r s ⌝ }
+{
+    if command::reads(r) {
+        if data_meets(r, s) {
+            return true;
+        }
+        if command::reads(s) {
+            return false;
+        }
+        return sectors_meet(r, s);
+    }
+    if command::reads(s) {
+        if data_meets(r, s) {
+            return true;
+        }
+        return sectors_meet(r, s);
+    }
+    sectors_meet(r, s)
+}
+
+// Two commands conflict: one of them writes a byte or sector that the other reads or writes (Touch 4).
 pub fn conflict(r: Record, s: Record) -> bool
     ensures { λ b. ⌜ b ≡ touch.conflict r s ⌝ }
 {
-    if disturbs(r, s) {
+    if ranges::crosses(r.iopb, STATUS_BYTES, s.iopb, STATUS_BYTES) {
         return true;
     }
-    disturbs(s, r)
+    if status_meets_data(r, s) {
+        return true;
+    }
+    if status_meets_data(s, r) {
+        return true;
+    }
+    if command::transfers(r) {
+        if command::transfers(s) {
+            return transfers_meet(r, s);
+        }
+    }
+    false
 }

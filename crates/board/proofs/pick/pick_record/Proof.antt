@@ -19,7 +19,7 @@ use Rattle.meaning.proofs.Numbers.{Passed, passed-place, none-bad, store-right}
 use Rattle.meaning.proofs.Records.{unfinished-some}
 use Rattle.board.specs.Changes.{handed}
 use Rattle.board.proofs.Moving.{ready, one-step, steps-small}
-use Rattle.board.proofs.Searching.{blocking, none-more, some-here}
+use Rattle.board.proofs.Searching.{none-more, some-here, blocking, finished-free, by-conflict}
 use Rattle.board.proofs.Picking.{no-place, is-finished, has-to-wait, may-go, sizes-first, spoiled-next, over-most, by-records, by-memory, sizes-handed, all-handed, sizes-right, refused-changes, accepted-changes}
 use Rattle.board.proofs.Taken.{with-next}
 use Rattle.board.proofs.pick.pick_record.Statement.{statement}
@@ -182,14 +182,33 @@ returns-5 c = let a = c .before .before .before .before .before .before .before 
 loop2-holds : tie.Need-loop2-holds Inv-loop μ-loop Inv-loop2 μ-loop2
 loop2-holds c = (search needs, search needs, refl)
 
-mul-blocks : tie.Need-mul-blocks Inv-loop μ-loop Inv-loop2 μ-loop2
-mul-blocks c = omega arith
+mul-finished : tie.Need-mul-finished Inv-loop μ-loop Inv-loop2 μ-loop2
+mul-finished c = omega arith
 
-array-copy-out-blocks : tie.Need-array-copy-out-blocks Inv-loop μ-loop Inv-loop2 μ-loop2
-array-copy-out-blocks c = omega arith
+array-copy-out-finished : tie.Need-array-copy-out-finished Inv-loop μ-loop Inv-loop2 μ-loop2
+array-copy-out-finished c = omega arith
 
-blocks-requires : tie.Need-blocks-requires Inv-loop μ-loop Inv-loop2 μ-loop2
-blocks-requires c κs = search needs
+finished-requires-2 : tie.Need-finished-requires-2 Inv-loop μ-loop Inv-loop2 μ-loop2
+finished-requires-2 c κs = search needs
+
+add-earlier : tie.Need-add-earlier Inv-loop μ-loop Inv-loop2 μ-loop2
+add-earlier c = omega arith
+
+loop2-less : tie.Need-loop2-less Inv-loop μ-loop Inv-loop2 μ-loop2
+loop2-less c = omega arith
+
+loop2-again : tie.Need-loop2-again Inv-loop μ-loop Inv-loop2 μ-loop2
+loop2-again c = let a = c .before .before .before .before .before .before .before .before .before .before .before .before .before .before .before .before .before .before .args in
+    (omega arith, (c .before .before .before .before .loop2 .inv .1), none-more noRecord (blocking (getD (a .t4) (a .place) noRecord)) (a .t4) (c .before .before .before .before .loop2 .earlier) (omega arith) (c .before .before .before .before .loop2 .inv .2) (finished-free (getD (a .t4) (a .place) noRecord) (getD (a .t4) (c .before .before .before .before .loop2 .earlier) noRecord) (sym (c .before .finished2 .ensures) ∙ (c .if6 .taken))))
+
+mul-conflict : tie.Need-mul-conflict Inv-loop μ-loop Inv-loop2 μ-loop2
+mul-conflict c = omega arith
+
+array-copy-out-conflict : tie.Need-array-copy-out-conflict Inv-loop μ-loop Inv-loop2 μ-loop2
+array-copy-out-conflict c = omega arith
+
+conflict-requires : tie.Need-conflict-requires Inv-loop μ-loop Inv-loop2 μ-loop2
+conflict-requires c κs = search needs
 
 refused-requires-6 : tie.Need-refused-requires-6 Inv-loop μ-loop Inv-loop2 μ-loop2
 refused-requires-6 c κs = search needs
@@ -202,20 +221,20 @@ same-length-12 c = search needs
 
 returns-6 : tie.Need-returns-6 Inv-loop μ-loop Inv-loop2 μ-loop2
 unfolding waits
-returns-6 c = let a = c .before .before .before .before .before .before .before .before .before .before .before .before .before .before .before .before .before .before .before .args in
-    let blocked = some-here noRecord (blocking (getD (a .t4) (a .place) noRecord)) (a .t4) (c .before .before .before .before .before .loop2 .earlier) (a .place) (c .before .before .before .before .loop2-test .taken) (omega arith) (sym (c .before .before .blocks2 .ensures) ∙ (c .before .if6 .taken)) in
+returns-6 c = let a = c .before .before .before .before .before .before .before .before .before .before .before .before .before .before .before .before .before .before .before .before .before .before .args in
+    let blocked = some-here noRecord (blocking (getD (a .t4) (a .place) noRecord)) (a .t4) (c .before .before .before .before .before .before .before .before .loop2 .earlier) (a .place) (c .before .before .before .before .before .before .before .loop2-test .taken) (omega arith) (by-conflict (getD (a .t4) (a .place) noRecord) (getD (a .t4) (c .before .before .before .before .before .before .before .before .loop2 .earlier) noRecord) _ (sym (c .before .before .before .before .before .finished2 .ensures) ∙ (c .before .before .before .before .if6 .left)) (sym (c .before .before .conflict .ensures) ∙ (c .before .if7 .taken))) in
     refused-changes (a .d) (a .commands) (a .place) (a .length) (stateOf (a .memory .now) (a .image .now) (a .t4)) 6 (c .refused6 .result) (c .refused6 .ensures)
-    (place-decides (c .before .before .before .before .before .before .before .before .before .before) ∙ has-to-wait (a .t4) (a .commands) (a .place) (c .before .before .before .before .before .before .before .before .before .if4 .left) (sym (c .before .before .before .before .before .before .before .finished .ensures) ∙ (c .before .before .before .before .before .before .if5 .left)) blocked) (λ e. omega arith)
+    (place-decides (c .before .before .before .before .before .before .before .before .before .before .before .before .before) ∙ has-to-wait (a .t4) (a .commands) (a .place) (c .before .before .before .before .before .before .before .before .before .before .before .before .if4 .left) (sym (c .before .before .before .before .before .before .before .before .before .before .finished .ensures) ∙ (c .before .before .before .before .before .before .before .before .before .if5 .left)) blocked) (λ e. omega arith)
 
-add-earlier : tie.Need-add-earlier Inv-loop μ-loop Inv-loop2 μ-loop2
-add-earlier c = omega arith
+add-earlier-2 : tie.Need-add-earlier-2 Inv-loop μ-loop Inv-loop2 μ-loop2
+add-earlier-2 c = omega arith
 
-loop2-less : tie.Need-loop2-less Inv-loop μ-loop Inv-loop2 μ-loop2
-loop2-less c = omega arith
+loop2-less-2 : tie.Need-loop2-less-2 Inv-loop μ-loop Inv-loop2 μ-loop2
+loop2-less-2 c = omega arith
 
-loop2-again : tie.Need-loop2-again Inv-loop μ-loop Inv-loop2 μ-loop2
-loop2-again c = let a = c .before .before .before .before .before .before .before .before .before .before .before .before .before .before .before .before .before .before .args in
-    (omega arith, (c .before .before .before .before .loop2 .inv .1), none-more noRecord (blocking (getD (a .t4) (a .place) noRecord)) (a .t4) (c .before .before .before .before .loop2 .earlier) (omega arith) (c .before .before .before .before .loop2 .inv .2) (sym (c .before .blocks2 .ensures) ∙ (c .if6 .left)))
+loop2-again-2 : tie.Need-loop2-again-2 Inv-loop μ-loop Inv-loop2 μ-loop2
+loop2-again-2 c = let a = c .before .before .before .before .before .before .before .before .before .before .before .before .before .before .before .before .before .before .before .before .before .args in
+    (omega arith, (c .before .before .before .before .before .before .before .loop2 .inv .1), none-more noRecord (blocking (getD (a .t4) (a .place) noRecord)) (a .t4) (c .before .before .before .before .before .before .before .loop2 .earlier) (omega arith) (c .before .before .before .before .before .before .before .loop2 .inv .2) (by-conflict (getD (a .t4) (a .place) noRecord) (getD (a .t4) (c .before .before .before .before .before .before .before .loop2 .earlier) noRecord) _ (sym (c .before .before .before .before .finished2 .ensures) ∙ (c .before .before .before .if6 .left)) (sym (c .before .conflict .ensures) ∙ (c .if7 .left))))
 
 take-steps-requires : tie.Need-take-steps-requires Inv-loop μ-loop Inv-loop2 μ-loop2
 take-steps-requires c κs = let a = c .before .before .before .before .before .before .before .before .before .before .before .before .before .before .before .before .before .args in
@@ -292,16 +311,22 @@ pick-record-spec =
     same-length-10
     returns-5
     loop2-holds
-    mul-blocks
-    array-copy-out-blocks
-    blocks-requires
+    mul-finished
+    array-copy-out-finished
+    finished-requires-2
+    add-earlier
+    loop2-less
+    loop2-again
+    mul-conflict
+    array-copy-out-conflict
+    conflict-requires
     refused-requires-6
     same-length-11
     same-length-12
     returns-6
-    add-earlier
-    loop2-less
-    loop2-again
+    add-earlier-2
+    loop2-less-2
+    loop2-again-2
     take-steps-requires
     add-with-taken
     with-taken-requires

@@ -19,13 +19,15 @@ use lib.Dec.{eqb}
 use Rattle.meaning.specs.declared.Ran.{Ran}
 use Rattle.meaning.specs.Each.{someOf}
 use Rattle.meaning.specs.Command.{finished}
+use Rattle.meaning.specs.Touch.{conflict}
 use Rattle.meaning.specs.Pick.{waits, placeNumber}
 use Rattle.board.specs.Changes.{withTaken, RunTakes}
-use Rattle.board.proofs.Moving.{one-step, steps-small}
-use Rattle.board.proofs.Searching.{blocking, none-more, some-here, Searched, searched-to}
+use Rattle.board.proofs.Moving.{steps-small}
+use Rattle.board.proofs.Searching.{none-more, some-here, blocking, finished-free, by-conflict, Searched, searched-to}
 use Rattle.board.proofs.Picking.{no-place, is-finished, has-to-wait, may-go}
-use Rattle.board.proofs.Taken.{length-with}
-use Rattle.board.proofs.ByPicks.{PicksLeft, picks-begin, in-use-few, at-place, pick-passed-over, pick-ready, pick-taken, all-picked, finished-by-count}
+use Rattle.board.proofs.Taken.{length-with, conflict-with}
+use Rattle.board.proofs.ByPicks.{PicksLeft, picks-begin, in-use-few, at-place, searched-on, pick-passed-over, some-left, pick-ready, all-picked, finished-by-count}
+use Rattle.board.proofs.Again.{picks-in-a-row}
 use Rattle.board.proofs.run.picks_taken.Statement.{statement}
 use Rattle.board.proofs.run.picks_taken.Tie as tie
 
@@ -38,14 +40,14 @@ abbrev μ-loop : tie.MeasureT-loop
     32 - k
 
 abbrev Inv-loop2 : tie.InvT-loop2
-Inv-loop2 memory image d many commands picks table taken seen k number searched₀ steps passed₀ next place r earlier₀ searched passed earlier =
+Inv-loop2 memory image d many commands picks table taken seen k number searched₀ steps passed₀ next at place r earlier₀ searched passed earlier =
     (earlier ≤ place)
     × (searched ≡ searched₀)
     × (passed ≡ passed₀)
     × (someOf (blocking r) (take earlier (tableWith taken table)) ≡ false)
 
 abbrev μ-loop2 : tie.MeasureT-loop2
-μ-loop2 memory image d many commands picks table taken seen k number searched₀ steps passed₀ next place r earlier₀ searched passed earlier =
+μ-loop2 memory image d many commands picks table taken seen k number searched₀ steps passed₀ next at place r earlier₀ searched passed earlier =
     place - earlier
 
 abbrev Inv-picks : tie.InvT-picks
@@ -84,6 +86,9 @@ there : (c : tie.After-with-taken2 Inv-loop μ-loop Inv-loop2 μ-loop2 Inv-picks
 there c = let a = c .before .before .before .before .before .before .before .before .before .before .before .before .before .before .before .before .before .before .before .before .before .args in
     let l = c .before .before .before .before .before .before .before .before .before .before .before .picks in
     (c .with-taken2 .ensures) ∙ at-place (a .d) (a .commands) (a .picks .now) (a .memory .now) (a .image .now) (a .t4) (l .memory) (l .image) (l .taken) (l .searched) (l .steps) (l .passed) (l .next) (l .inv) (c .before .before .before .loop2 .earlier) (let h = in-table (c .before .before .before .before .before .before .before .before) in let b = (c .before .before .loop2-test .taken) in omega arith)
+
+untaken : (c : tie.After-with-taken2 Inv-loop μ-loop Inv-loop2 μ-loop2 Inv-picks μ-picks) → conflict (c .with-taken2 .result) (c .before .before .before .before .before .before .with-taken .result) ≡ conflict (getD (c .before .before .before .before .before .before .before .before .before .before .before .before .before .before .before .before .before .before .before .before .before .args .t4) (c .before .before .before .loop2 .earlier) noRecord) (c .before .before .before .before .before .before .with-taken .result)
+untaken c = ap (λ (x : Record). conflict x (c .before .before .before .before .before .before .with-taken .result)) (c .with-taken2 .ensures) ∙ conflict-with (getD (c .before .before .before .before .before .before .before .before .before .before .before .picks .taken) (c .before .before .before .loop2 .earlier) 0) (getD (c .before .before .before .before .before .before .before .before .before .before .before .before .before .before .before .before .before .before .before .before .before .args .t4) (c .before .before .before .loop2 .earlier) noRecord) (c .before .before .before .before .before .before .with-taken .result)
 
 inside : (c : tie.In-loop2 Inv-loop μ-loop Inv-loop2 μ-loop2 Inv-picks μ-picks) → let a = (c .before .before .before .before .before .before .before .before .before .before .before .before .before .before .before .before .before .before .before .args) in let l = (c .before .before .before .before .before .before .before .before .before .picks) in (c .before .loop2 .earlier) < length (tableWith (l .taken) (a .t4))
 inside c = let a = c .before .before .before .before .before .before .before .before .before .before .before .before .before .before .before .before .before .before .before .args in
@@ -184,7 +189,7 @@ picks-again : tie.Need-picks-again Inv-loop μ-loop Inv-loop2 μ-loop2 Inv-picks
 picks-again c = let a = c .before .before .before .before .before .before .before .before .before .before .before .before .before .args in
     let l = c .before .before .before .picks in
     let p = getD (a .picks .now) (l .next) 0 in
-    pick-passed-over (a .d) (a .commands) (a .picks .now) (a .memory .now) (a .image .now) (a .t4) (l .memory) (l .image) (l .taken) (l .searched) (l .steps) (l .passed) (l .next) (l .inv) (l .searched) (l .inv .search) (c .before .before .picks-test .taken) (λ q. omega (arith, no-place (tableWith (l .taken) (a .t4)) (a .commands) p (c .if2 .taken), q))
+    pick-passed-over (a .d) (a .commands) (a .picks .now) (a .memory .now) (a .image .now) (a .t4) (l .memory) (l .image) (l .taken) (l .searched) (l .steps) (l .passed) (l .next) (l .inv) (c .before .before .picks-test .taken) (λ q. omega (arith, no-place (tableWith (l .taken) (a .t4)) (a .commands) p (c .if2 .taken), q))
 
 mul-with-taken : tie.Need-mul-with-taken Inv-loop μ-loop Inv-loop2 μ-loop2 Inv-picks μ-picks
 mul-with-taken c = omega (arith, in-table c)
@@ -216,7 +221,7 @@ picks-again-2 c = let a = c .before .before .before .before .before .before .bef
     let p = getD (a .picks .now) (l .next) 0 in
     let t = tableWith (l .taken) (a .t4) in
     let over = ap finished (sym (here (c .before .before))) ∙ sym (c .before .finished .ensures) ∙ (c .if3 .taken) in
-    pick-passed-over (a .d) (a .commands) (a .picks .now) (a .memory .now) (a .image .now) (a .t4) (l .memory) (l .image) (l .taken) (l .searched) (l .steps) (l .passed) (l .next) (l .inv) (l .searched) (l .inv .search) (c .before .before .before .before .before .before .picks-test .taken) (λ q. omega (arith, is-finished t (a .commands) p (c .before .before .before .before .if2 .left) over, q))
+    pick-passed-over (a .d) (a .commands) (a .picks .now) (a .memory .now) (a .image .now) (a .t4) (l .memory) (l .image) (l .taken) (l .searched) (l .steps) (l .passed) (l .next) (l .inv) (c .before .before .before .before .before .before .picks-test .taken) (λ q. omega (arith, is-finished t (a .commands) p (c .before .before .before .before .if2 .left) over, q))
 
 mul-earlier : tie.Need-mul-earlier Inv-loop μ-loop Inv-loop2 μ-loop2 Inv-picks μ-picks
 mul-earlier c = omega (arith, in-table (c .before .before .before .before))
@@ -246,35 +251,8 @@ array-read-with-taken-2 c = omega (arith, in-table (c .before .before .before .b
 with-taken-requires-2 : tie.Need-with-taken-requires-2 Inv-loop μ-loop Inv-loop2 μ-loop2 Inv-picks μ-picks
 with-taken-requires-2 c κs = search needs
 
-blocks-requires : tie.Need-blocks-requires Inv-loop μ-loop Inv-loop2 μ-loop2 Inv-picks μ-picks
-blocks-requires c κs = search needs
-
-mul-searched : tie.Need-mul-searched Inv-loop μ-loop Inv-loop2 μ-loop2 Inv-picks μ-picks
-mul-searched c = omega (arith, in-table (c .before .before .before .before .before .before .before .before .before .before))
-
-array-write-searched : tie.Need-array-write-searched Inv-loop μ-loop Inv-loop2 μ-loop2 Inv-picks μ-picks
-array-write-searched c = let e = ap length (c .before .before .before .before .before .loop2 .inv .1) in omega (arith, in-table (c .before .before .before .before .before .before .before .before .before .before), (c .before .before .before .before .before .before .before .before .before .before .before .before .before .picks .inv .search .long))
-
-add-passed-3 : tie.Need-add-passed-3 Inv-loop μ-loop Inv-loop2 μ-loop2 Inv-picks μ-picks
-add-passed-3 c = omega (arith, (c .before .before .before .before .before .loop2 .inv .2), (c .before .before .before .before .before .before .before .before .before .before .before .before .before .picks .inv .counted), (c .before .before .before .before .before .before .before .before .before .before .before .before .before .picks .inv .most), (c .before .before .before .before .before .before .before .before .before .before .before .before .before .before .before .before .before .before .before .before .before .before .before .good))
-
-picks-less-3 : tie.Need-picks-less-3 Inv-loop μ-loop Inv-loop2 μ-loop2 Inv-picks μ-picks
-picks-less-3 c = omega (arith, (c .before .before .before .before .before .before .before .before .before .before .before .before .picks-test .taken))
-
-picks-again-3 : tie.Need-picks-again-3 Inv-loop μ-loop Inv-loop2 μ-loop2 Inv-picks μ-picks
-unfolding waits
-picks-again-3 c = let a = c .before .before .before .before .before .before .before .before .before .before .before .before .before .before .before .before .before .before .before .before .before .before .before .args in
-    let l = c .before .before .before .before .before .before .before .before .before .before .before .before .before .picks in
-    let p = getD (a .picks .now) (l .next) 0 in
-    let t = tableWith (l .taken) (a .t4) in
-    let e = c .before .before .before .before .before .loop2 in
-    let blocked = sym (λ j. blocking (here (c .before .before .before .before .before .before .before .before) j) (there (c .before .before) j)) ∙ sym (c .before .blocks2 .ensures) ∙ (c .if4 .taken) in
-    let open-yet = ap finished (sym (here (c .before .before .before .before .before .before .before .before))) ∙ sym (c .before .before .before .before .before .before .before .finished .ensures) ∙ (c .before .before .before .before .before .before .if3 .left) in
-    let six = has-to-wait t (a .commands) p (c .before .before .before .before .before .before .before .before .before .before .if2 .left) open-yet (some-here noRecord (blocking (getD t p noRecord)) t (e .earlier) p (c .before .before .before .before .loop2-test .taken) (inside (c .before .before .before .before)) blocked) in
-    let to = searched-to t (l .searched) p (e .earlier) (l .inv .search) (in-table (c .before .before .before .before .before .before .before .before .before .before)) (e .inv .0) (clear (c .before .before .before .before .before)) in
-    subst (λ (x : List ℕ). PicksLeft (a .d) (a .commands) (a .picks .now) (a .memory .now) (a .image .now) (a .t4) (l .memory) (l .image) (l .taken) (set x p (e .earlier)) (l .steps) (e .passed + 1) (l .next + 1)) (sym (e .inv .1))
-    (subst (λ (x : ℕ). PicksLeft (a .d) (a .commands) (a .picks .now) (a .memory .now) (a .image .now) (a .t4) (l .memory) (l .image) (l .taken) (set (l .searched) p (e .earlier)) (l .steps) (x + 1) (l .next + 1)) (sym (e .inv .2))
-    (pick-passed-over (a .d) (a .commands) (a .picks .now) (a .memory .now) (a .image .now) (a .t4) (l .memory) (l .image) (l .taken) (l .searched) (l .steps) (l .passed) (l .next) (l .inv) (set (l .searched) p (e .earlier)) to (c .before .before .before .before .before .before .before .before .before .before .before .before .picks-test .taken) (λ q. omega (arith, six, q))))
+finished-requires-2 : tie.Need-finished-requires-2 Inv-loop μ-loop Inv-loop2 μ-loop2 Inv-picks μ-picks
+finished-requires-2 c κs = search needs
 
 add-earlier : tie.Need-add-earlier Inv-loop μ-loop Inv-loop2 μ-loop2 Inv-picks μ-picks
 add-earlier c = omega (arith, in-table (c .before .before .before .before .before .before .before .before .before .before))
@@ -287,7 +265,57 @@ loop2-again c = let a = c .before .before .before .before .before .before .befor
     let l = c .before .before .before .before .before .before .before .before .before .before .before .before .before .picks in
     let e = c .before .before .before .before .before .loop2 in
     let t = tableWith (l .taken) (a .t4) in
-    (omega arith, e .inv .1, e .inv .2, none-more noRecord (blocking (c .before .before .before .before .before .before .before .before .with-taken .result)) t (e .earlier) (inside (c .before .before .before .before)) (e .inv .3) (ap (blocking (c .before .before .before .before .before .before .before .before .with-taken .result)) (sym (there (c .before .before))) ∙ sym (c .before .blocks2 .ensures) ∙ (c .if4 .left)))
+    (omega arith, e .inv .1, e .inv .2, none-more noRecord (blocking (c .before .before .before .before .before .before .before .before .with-taken .result)) t (e .earlier) (inside (c .before .before .before .before)) (e .inv .3) (ap (blocking (c .before .before .before .before .before .before .before .before .with-taken .result)) (sym (there (c .before .before))) ∙ finished-free (c .before .before .before .before .before .before .before .before .with-taken .result) (c .before .before .with-taken2 .result) (sym (c .before .finished2 .ensures) ∙ (c .if4 .taken))))
+
+mul-conflict : tie.Need-mul-conflict Inv-loop μ-loop Inv-loop2 μ-loop2 Inv-picks μ-picks
+mul-conflict c = omega (arith, in-table (c .before .before .before .before .before .before .before .before .before .before))
+
+array-copy-out-conflict : tie.Need-array-copy-out-conflict Inv-loop μ-loop Inv-loop2 μ-loop2 Inv-picks μ-picks
+array-copy-out-conflict c = omega (arith, in-table (c .before .before .before .before .before .before .before .before .before .before))
+
+conflict-requires : tie.Need-conflict-requires Inv-loop μ-loop Inv-loop2 μ-loop2 Inv-picks μ-picks
+conflict-requires c κs = search needs
+
+mul-searched : tie.Need-mul-searched Inv-loop μ-loop Inv-loop2 μ-loop2 Inv-picks μ-picks
+mul-searched c = omega (arith, in-table (c .before .before .before .before .before .before .before .before .before .before .before .before .before))
+
+array-write-searched : tie.Need-array-write-searched Inv-loop μ-loop Inv-loop2 μ-loop2 Inv-picks μ-picks
+array-write-searched c = let e = ap length (c .before .before .before .before .before .before .before .before .loop2 .inv .1) in omega (arith, in-table (c .before .before .before .before .before .before .before .before .before .before .before .before .before), (c .before .before .before .before .before .before .before .before .before .before .before .before .before .before .before .before .picks .inv .search .long))
+
+add-passed-3 : tie.Need-add-passed-3 Inv-loop μ-loop Inv-loop2 μ-loop2 Inv-picks μ-picks
+add-passed-3 c = omega (arith, (c .before .before .before .before .before .before .before .before .loop2 .inv .2), (c .before .before .before .before .before .before .before .before .before .before .before .before .before .before .before .before .picks .inv .counted), (c .before .before .before .before .before .before .before .before .before .before .before .before .before .before .before .before .picks .inv .most), (c .before .before .before .before .before .before .before .before .before .before .before .before .before .before .before .before .before .before .before .before .before .before .before .before .before .before .good))
+
+picks-less-3 : tie.Need-picks-less-3 Inv-loop μ-loop Inv-loop2 μ-loop2 Inv-picks μ-picks
+picks-less-3 c = omega (arith, (c .before .before .before .before .before .before .before .before .before .before .before .before .before .before .before .picks-test .taken))
+
+picks-again-3 : tie.Need-picks-again-3 Inv-loop μ-loop Inv-loop2 μ-loop2 Inv-picks μ-picks
+unfolding waits
+picks-again-3 c = let a = c .before .before .before .before .before .before .before .before .before .before .before .before .before .before .before .before .before .before .before .before .before .before .before .before .before .before .args in
+    let l = c .before .before .before .before .before .before .before .before .before .before .before .before .before .before .before .before .picks in
+    let p = getD (a .picks .now) (l .next) 0 in
+    let t = tableWith (l .taken) (a .t4) in
+    let e = c .before .before .before .before .before .before .before .before .loop2 in
+    let blocked = sym (λ j. blocking (here (c .before .before .before .before .before .before .before .before .before .before .before) j) (there (c .before .before .before .before .before) j)) ∙ by-conflict (c .before .before .before .before .before .before .before .before .before .before .before .with-taken .result) (c .before .before .before .before .before .with-taken2 .result) _ (sym (c .before .before .before .before .finished2 .ensures) ∙ (c .before .before .before .if4 .left)) (untaken (c .before .before .before .before .before) ∙ sym (c .before .conflict .ensures) ∙ (c .if5 .taken)) in
+    let open-yet = ap finished (sym (here (c .before .before .before .before .before .before .before .before .before .before .before))) ∙ sym (c .before .before .before .before .before .before .before .before .before .before .finished .ensures) ∙ (c .before .before .before .before .before .before .before .before .before .if3 .left) in
+    let six = has-to-wait t (a .commands) p (c .before .before .before .before .before .before .before .before .before .before .before .before .before .if2 .left) open-yet (some-here noRecord (blocking (getD t p noRecord)) t (e .earlier) p (c .before .before .before .before .before .before .before .loop2-test .taken) (inside (c .before .before .before .before .before .before .before)) blocked) in
+    let to = searched-to t (l .searched) p (e .earlier) (l .inv .search) (in-table (c .before .before .before .before .before .before .before .before .before .before .before .before .before)) (e .inv .0) (clear (c .before .before .before .before .before .before .before .before)) in
+    subst (λ (x : List ℕ). PicksLeft (a .d) (a .commands) (a .picks .now) (a .memory .now) (a .image .now) (a .t4) (l .memory) (l .image) (l .taken) (set x p (e .earlier)) (l .steps) (e .passed + 1) (l .next + 1)) (sym (e .inv .1))
+    (subst (λ (x : ℕ). PicksLeft (a .d) (a .commands) (a .picks .now) (a .memory .now) (a .image .now) (a .t4) (l .memory) (l .image) (l .taken) (set (l .searched) p (e .earlier)) (l .steps) (x + 1) (l .next + 1)) (sym (e .inv .2))
+    (pick-passed-over (a .d) (a .commands) (a .picks .now) (a .memory .now) (a .image .now) (a .t4) (l .memory) (l .image) (l .taken) (set (l .searched) p (e .earlier)) (l .steps) (l .passed) (l .next) (searched-on (a .d) (a .commands) (a .picks .now) (a .memory .now) (a .image .now) (a .t4) (l .memory) (l .image) (l .taken) (l .searched) (l .steps) (l .passed) (l .next) (l .inv) (set (l .searched) p (e .earlier)) to) (c .before .before .before .before .before .before .before .before .before .before .before .before .before .before .before .picks-test .taken) (λ q. omega (arith, six, q))))
+
+add-earlier-2 : tie.Need-add-earlier-2 Inv-loop μ-loop Inv-loop2 μ-loop2 Inv-picks μ-picks
+add-earlier-2 c = omega (arith, in-table (c .before .before .before .before .before .before .before .before .before .before .before .before .before))
+
+loop2-less-2 : tie.Need-loop2-less-2 Inv-loop μ-loop Inv-loop2 μ-loop2 Inv-picks μ-picks
+loop2-less-2 c = omega arith
+
+loop2-again-2 : tie.Need-loop2-again-2 Inv-loop μ-loop Inv-loop2 μ-loop2 Inv-picks μ-picks
+loop2-again-2 c = let a = c .before .before .before .before .before .before .before .before .before .before .before .before .before .before .before .before .before .before .before .before .before .before .before .before .before .before .args in
+    let l = c .before .before .before .before .before .before .before .before .before .before .before .before .before .before .before .before .picks in
+    let e = c .before .before .before .before .before .before .before .before .loop2 in
+    let t = tableWith (l .taken) (a .t4) in
+    (omega arith, e .inv .1, e .inv .2, none-more noRecord (blocking (c .before .before .before .before .before .before .before .before .before .before .before .with-taken .result)) t (e .earlier) (inside (c .before .before .before .before .before .before .before)) (e .inv .3)
+    (ap (blocking (c .before .before .before .before .before .before .before .before .before .before .before .with-taken .result)) (sym (there (c .before .before .before .before .before))) ∙ by-conflict (c .before .before .before .before .before .before .before .before .before .before .before .with-taken .result) (c .before .before .before .before .before .with-taken2 .result) _ (sym (c .before .before .before .before .finished2 .ensures) ∙ (c .before .before .before .if4 .left)) (untaken (c .before .before .before .before .before) ∙ sym (c .before .conflict .ensures) ∙ (c .if5 .left))))
 
 mul-searched-2 : tie.Need-mul-searched-2 Inv-loop μ-loop Inv-loop2 μ-loop2 Inv-picks μ-picks
 mul-searched-2 c = omega (arith, in-table (c .before .before .before .before .before .before))
@@ -295,42 +323,63 @@ mul-searched-2 c = omega (arith, in-table (c .before .before .before .before .be
 array-write-searched-2 : tie.Need-array-write-searched-2 Inv-loop μ-loop Inv-loop2 μ-loop2 Inv-picks μ-picks
 array-write-searched-2 c = let e = ap length (c .before .loop2 .inv .1) in omega (arith, in-table (c .before .before .before .before .before .before), (c .before .before .before .before .before .before .before .before .before .picks .inv .search .long))
 
+remaining-requires : tie.Need-remaining-requires Inv-loop μ-loop Inv-loop2 μ-loop2 Inv-picks μ-picks
+remaining-requires c κs = search needs
+
+picks-alike-requires : tie.Need-picks-alike-requires Inv-loop μ-loop Inv-loop2 μ-loop2 Inv-picks μ-picks
+picks-alike-requires c κs = let a = c .before .before .before .before .before .before .before .before .before .before .before .before .before .before .before .before .before .before .before .before .args in
+    let l = c .before .before .before .before .before .before .before .before .before .before .picks in
+    ((c .before .before .before .before .before .before .before .before .before .picks-test .taken), rw (c .remaining .ensures) (some-left (a .d) (a .commands) (a .picks .now) (a .memory .now) (a .image .now) (a .t4) (l .memory) (l .image) (l .taken) (l .searched) (l .steps) (l .passed) (l .next) (l .inv) (c .before .before .before .before .before .with-taken .result) (here (c .before .before .before .before .before)) (in-table (c .before .before .before .before .before .before .before)) (free (c .before))))
+
 take-steps-requires : tie.Need-take-steps-requires Inv-loop μ-loop Inv-loop2 μ-loop2 Inv-picks μ-picks
-take-steps-requires c κs = let a = c .before .before .before .before .before .before .before .before .before .before .before .before .before .before .before .before .before .before .before .before .before .args in
-    let l = c .before .before .before .before .before .before .before .before .before .before .before .picks in
-    pick-ready (a .d) (a .commands) (a .picks .now) (a .memory .now) (a .image .now) (a .t4) (l .memory) (l .image) (l .taken) (l .searched) (l .steps) (l .passed) (l .next) (l .inv) (c .before .before .before .before .before .before .with-taken .result) (here (c .before .before .before .before .before .before)) (in-table (c .before .before .before .before .before .before .before .before)) (free (c .before .before))
+take-steps-requires c κs = let a = c .before .before .before .before .before .before .before .before .before .before .before .before .before .before .before .before .before .before .before .before .before .before .before .args in
+    let l = c .before .before .before .before .before .before .before .before .before .before .before .before .before .picks in
+    let few = rw (c .before .before .before .remaining .ensures) at (c .before .before .picks-alike .ensures .few) in
+    (few, pick-ready (a .d) (a .commands) (a .picks .now) (a .memory .now) (a .image .now) (a .t4) (l .memory) (l .image) (l .taken) (l .searched) (l .steps) (l .passed) (l .next) (l .inv) (c .before .before .before .before .before .before .before .before .with-taken .result) (here (c .before .before .before .before .before .before .before .before)) (in-table (c .before .before .before .before .before .before .before .before .before .before)) (free (c .before .before .before .before)) (c .before .before .picks-alike .result) few)
 
 add-taken : tie.Need-add-taken Inv-loop μ-loop Inv-loop2 μ-loop2 Inv-picks μ-picks
 unfolding remaining
-add-taken c = let a = c .before .before .before .before .before .before .before .before .before .before .before .before .before .before .before .before .before .before .before .before .before .before .before .before .before .before .before .args in
-    let l = c .before .before .before .before .before .before .before .before .before .before .before .before .before .before .before .before .before .picks in
-    let some = pick-ready (a .d) (a .commands) (a .picks .now) (a .memory .now) (a .image .now) (a .t4) (l .memory) (l .image) (l .taken) (l .searched) (l .steps) (l .passed) (l .next) (l .inv) (c .before .before .before .before .before .before .before .before .before .before .before .before .with-taken .result) (here (c .before .before .before .before .before .before .before .before .before .before .before .before)) (in-table (c .before .before .before .before .before .before .before .before .before .before .before .before .before .before)) (free (c .before .before .before .before .before .before .before .before)) .0 in
-    omega (arith, some, steps-small (c .before .before .before .before .before .before .before .before .before .before .before .before .with-taken .result) (omega arith))
+add-taken c = let a = c .before .before .before .before .before .before .before .before .before .before .before .before .before .before .before .before .before .before .before .before .before .before .before .before .before .before .before .before .before .args in
+    let l = c .before .before .before .before .before .before .before .before .before .before .before .before .before .before .before .before .before .before .before .picks in
+    let few = rw (c .before .before .before .before .before .before .before .before .before .remaining .ensures) at (c .before .before .before .before .before .before .before .before .picks-alike .ensures .few) in
+    omega (arith, few, steps-small (c .before .before .before .before .before .before .before .before .before .before .before .before .before .before .with-taken .result) (omega arith))
 
 mul-taken-2 : tie.Need-mul-taken-2 Inv-loop μ-loop Inv-loop2 μ-loop2 Inv-picks μ-picks
-mul-taken-2 c = omega (arith, in-table (c .before .before .before .before .before .before .before .before .before .before .before .before .before .before))
+mul-taken-2 c = omega (arith, in-table (c .before .before .before .before .before .before .before .before .before .before .before .before .before .before .before .before))
 
 array-write-taken-2 : tie.Need-array-write-taken-2 Inv-loop μ-loop Inv-loop2 μ-loop2 Inv-picks μ-picks
-array-write-taken-2 c = omega (arith, in-table (c .before .before .before .before .before .before .before .before .before .before .before .before .before .before), (c .before .before .before .before .before .before .before .before .before .before .before .before .before .before .before .before .before .picks .inv .long))
+array-write-taken-2 c = omega (arith, in-table (c .before .before .before .before .before .before .before .before .before .before .before .before .before .before .before .before), (c .before .before .before .before .before .before .before .before .before .before .before .before .before .before .before .before .before .before .before .picks .inv .long))
+
+cast-steps : tie.Need-cast-steps Inv-loop μ-loop Inv-loop2 μ-loop2 Inv-picks μ-picks
+cast-steps c = search needs
 
 add-steps : tie.Need-add-steps Inv-loop μ-loop Inv-loop2 μ-loop2 Inv-picks μ-picks
-add-steps c = omega (arith, (c .before .before .before .before .before .before .before .before .before .before .before .before .before .before .before .before .before .picks .inv .counted), (c .before .before .before .before .before .before .before .before .before .before .before .before .before .before .before .before .before .picks .inv .most), (c .before .before .before .before .before .before .before .before .before .before .before .before .before .before .before .before .before .before .before .before .before .before .before .before .before .before .before .good))
+add-steps c = omega (arith, (c .before .before .before .before .before .before .before .before .picks-alike .ensures .there), (c .before .before .before .before .before .before .before .before .before .before .before .before .before .before .before .before .before .before .before .picks .inv .counted), (c .before .before .before .before .before .before .before .before .before .before .before .before .before .before .before .before .before .before .before .picks .inv .most), (c .before .before .before .before .before .before .before .before .before .before .before .before .before .before .before .before .before .before .before .before .before .before .before .before .before .before .before .before .before .good))
+
+cast-next : tie.Need-cast-next Inv-loop μ-loop Inv-loop2 μ-loop2 Inv-picks μ-picks
+cast-next c = search needs
+
+add-next-2 : tie.Need-add-next-2 Inv-loop μ-loop Inv-loop2 μ-loop2 Inv-picks μ-picks
+add-next-2 c = omega (arith, (c .before .before .before .before .before .before .before .before .picks-alike .ensures .there), (c .before .before .before .before .before .before .before .before .before .before .before .before .before .before .before .before .before .before .before .before .before .before .before .before .before .before .before .before .before .good))
 
 picks-less-4 : tie.Need-picks-less-4 Inv-loop μ-loop Inv-loop2 μ-loop2 Inv-picks μ-picks
-picks-less-4 c = omega (arith, (c .before .before .before .before .before .before .before .before .before .before .before .before .before .before .before .before .picks-test .taken))
+picks-less-4 c = omega (arith, (c .before .before .before .before .before .before .before .before .before .before .before .before .before .before .before .before .before .before .picks-test .taken), (c .before .before .before .before .before .before .before .before .picks-alike .ensures .some), (c .before .before .before .before .before .before .before .before .picks-alike .ensures .there))
 
 picks-again-4 : tie.Need-picks-again-4 Inv-loop μ-loop Inv-loop2 μ-loop2 Inv-picks μ-picks
-picks-again-4 c = let a = c .before .before .before .before .before .before .before .before .before .before .before .before .before .before .before .before .before .before .before .before .before .before .before .before .before .before .before .args in
-    let l = c .before .before .before .before .before .before .before .before .before .before .before .before .before .before .before .before .before .picks in
+picks-again-4 c = let a = c .before .before .before .before .before .before .before .before .before .before .before .before .before .before .before .before .before .before .before .before .before .before .before .before .before .before .before .before .before .args in
+    let l = c .before .before .before .before .before .before .before .before .before .before .before .before .before .before .before .before .before .before .before .picks in
     let p = getD (a .picks .now) (l .next) 0 in
     let t = tableWith (l .taken) (a .t4) in
-    let e = c .before .before .before .before .before .before .before .before .before .loop2 in
+    let e = c .before .before .before .before .before .before .before .before .before .before .before .loop2 in
     let v = c .before .before .before .before .before .take-steps in
-    let r = c .before .before .before .before .before .before .before .before .before .before .before .before .with-taken .result in
-    let to = searched-to t (l .searched) p (e .earlier) (l .inv .search) (in-table (c .before .before .before .before .before .before .before .before .before .before .before .before .before .before)) (e .inv .0) (clear (c .before .before .before .before .before .before .before .before .before)) in
-    subst (λ (x : List ℕ). PicksLeft (a .d) (a .commands) (a .picks .now) (a .memory .now) (a .image .now) (a .t4) (v .last .0) (v .last .1 .0) (set (l .taken) p (r .taken + 1)) (set x p (e .earlier)) (l .steps + 1) (e .passed) (l .next + 1)) (sym (e .inv .1))
-    (subst (λ (x : ℕ). PicksLeft (a .d) (a .commands) (a .picks .now) (a .memory .now) (a .image .now) (a .t4) (v .last .0) (v .last .1 .0) (set (l .taken) p (r .taken + 1)) (set (l .searched) p (e .earlier)) (l .steps + 1) x (l .next + 1)) (sym (e .inv .2))
-    (pick-taken (a .d) (a .commands) (a .picks .now) (a .memory .now) (a .image .now) (a .t4) (l .memory) (l .image) (l .taken) (l .searched) (l .steps) (l .passed) (l .next) (l .inv) r (here (c .before .before .before .before .before .before .before .before .before .before .before .before)) (in-table (c .before .before .before .before .before .before .before .before .before .before .before .before .before .before)) (v .last .0) (v .last .1 .0) (set (l .searched) p (e .earlier)) to (c .before .before .before .before .before .before .before .before .before .before .before .before .before .before .before .before .picks-test .taken) (free (c .before .before .before .before .before .before .before .before)) (v .ensures ∙ one-step (a .d) r (lent (l .memory) (l .image)))))
+    let r = c .before .before .before .before .before .before .before .before .before .before .before .before .before .before .with-taken .result in
+    let n = c .before .before .before .before .before .before .before .before .picks-alike in
+    let few = rw (c .before .before .before .before .before .before .before .before .before .remaining .ensures) at (c .before .before .before .before .before .before .before .before .picks-alike .ensures .few) in
+    let to = searched-to t (l .searched) p (e .earlier) (l .inv .search) (in-table (c .before .before .before .before .before .before .before .before .before .before .before .before .before .before .before .before)) (e .inv .0) (clear (c .before .before .before .before .before .before .before .before .before .before .before)) in
+    subst (λ (x : List ℕ). PicksLeft (a .d) (a .commands) (a .picks .now) (a .memory .now) (a .image .now) (a .t4) (v .last .0) (v .last .1 .0) (set (l .taken) p (r .taken + n .result)) (set x p (e .earlier)) (l .steps + n .result) (e .passed) (l .next + n .result)) (sym (e .inv .1))
+    (subst (λ (x : ℕ). PicksLeft (a .d) (a .commands) (a .picks .now) (a .memory .now) (a .image .now) (a .t4) (v .last .0) (v .last .1 .0) (set (l .taken) p (r .taken + n .result)) (set (l .searched) p (e .earlier)) (l .steps + n .result) x (l .next + n .result)) (sym (e .inv .2))
+    (picks-in-a-row (a .d) (a .commands) (a .picks .now) (a .memory .now) (a .image .now) (a .t4) (set (l .searched) p (e .earlier)) (l .passed) p (in-table (c .before .before .before .before .before .before .before .before .before .before .before .before .before .before .before .before)) (n .result) (l .memory) (l .image) (l .taken) (l .steps) (l .next) r (v .last .0) (v .last .1 .0)
+    (searched-on (a .d) (a .commands) (a .picks .now) (a .memory .now) (a .image .now) (a .t4) (l .memory) (l .image) (l .taken) (l .searched) (l .steps) (l .passed) (l .next) (l .inv) (set (l .searched) p (e .earlier)) to) (here (c .before .before .before .before .before .before .before .before .before .before .before .before .before .before)) (λ _. free (c .before .before .before .before .before .before .before .before .before .before)) few (n .ensures .there) (n .ensures .same) (v .ensures)))
 
 same-length-3 : tie.Need-same-length-3 Inv-loop μ-loop Inv-loop2 μ-loop2 Inv-picks μ-picks
 same-length-3 c = (c .before .before .picks .inv .memory-length)
@@ -395,22 +444,33 @@ picks-taken-spec =
     mul-with-taken-4
     array-read-with-taken-2
     with-taken-requires-2
-    blocks-requires
+    finished-requires-2
+    add-earlier
+    loop2-less
+    loop2-again
+    mul-conflict
+    array-copy-out-conflict
+    conflict-requires
     mul-searched
     array-write-searched
     add-passed-3
     picks-less-3
     picks-again-3
-    add-earlier
-    loop2-less
-    loop2-again
+    add-earlier-2
+    loop2-less-2
+    loop2-again-2
     mul-searched-2
     array-write-searched-2
+    remaining-requires
+    picks-alike-requires
     take-steps-requires
     add-taken
     mul-taken-2
     array-write-taken-2
+    cast-steps
     add-steps
+    cast-next
+    add-next-2
     picks-less-4
     picks-again-4
     same-length-3

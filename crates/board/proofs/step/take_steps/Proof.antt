@@ -19,6 +19,9 @@ move-sectors-requires c κs = search needs
 remaining-requires : tie.Need-remaining-requires
 remaining-requires c κs = search needs
 
+sub-left : tie.Need-sub-left
+sub-left c = let h = (c .before .before .before .before .before .before .before .before .before .before .before .pre .0) in omega (arith, (c .remaining .ensures))
+
 close-requires : tie.Need-close-requires
 close-requires c κs = search needs
 
@@ -31,8 +34,9 @@ same-length-2 c = search needs
 returns-2 : tie.Need-returns-2
 returns-2 c = let a = c .before .before .before .before .before .before .before .before .before .before .before .before .before .before .before .before .args in
     let v = c .before .before .before .before .before .before .before .before .before .before .move-sectors in
+    let few = c .before .before .before .before .before .before .before .before .before .before .before .before .before .before .before .before .pre .0 in
     ap (λ (x : List ℕ). lent x (v .last .1 .0)) (c .before .before .close .ensures)
-    ∙ closed-done (a .d) (a .n) (a .r) (lent (a .memory .now) (a .image .now)) (v .last .0) (v .last .1 .0) (v .ensures) (omega (arith, (c .before .before .before .before .before .before .before .before .before .before .before .before .before .if1 .left))) ((c .before .before .before .before .if2 .taken) ∙ (c .before .before .before .before .before .remaining .ensures))
+    ∙ closed-done (a .d) (a .n) (a .r) (lent (a .memory .now) (a .image .now)) (v .last .0) (v .last .1 .0) (v .ensures) (omega (arith, (c .before .before .before .before .before .before .before .before .before .before .before .before .before .if1 .left))) (omega (arith, few, (c .before .before .before .before .if2 .taken), (c .before .before .before .before .before .remaining .ensures)))
 
 same-length-3 : tie.Need-same-length-3
 same-length-3 c = search needs
@@ -43,7 +47,7 @@ same-length-4 c = search needs
 returns-3 : tie.Need-returns-3
 returns-3 c = let a = c .before .before .before .before .before .before .before .before .before .before .before .before .args in
     let v = c .before .before .before .before .before .before .move-sectors in
-    open-done (a .d) (a .n) (a .r) (lent (a .memory .now) (a .image .now)) (v .last .0) (v .last .1 .0) (v .ensures) (c .before .before .before .before .before .before .before .before .before .before .before .before .pre .0) (λ q. (c .if2 .left) (q ∙ sym (c .before .remaining .ensures)))
+    open-done (a .d) (a .n) (a .r) (lent (a .memory .now) (a .image .now)) (v .last .0) (v .last .1 .0) (v .ensures) (c .before .before .before .before .before .before .before .before .before .before .before .before .pre .0) (λ q. (c .if2 .left) (omega (arith, q, (c .before .remaining .ensures))))
 
 pub take-steps-spec : {M : Type 1} → statement M
 take-steps-spec =
@@ -52,6 +56,7 @@ take-steps-spec =
     returns
     move-sectors-requires
     remaining-requires
+    sub-left
     close-requires
     same-length
     same-length-2
