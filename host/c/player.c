@@ -262,9 +262,8 @@ static const struct {
     {"record", 8, 8, play_record},     {"spoil", 3, 3, play_spoil},         {"commands", 1, 1, play_commands},
     {"lent", 1, 1, play_lent},         {"walk", 1, 1, play_walk},           {"pick", 1, 1, play_pick},
     {"picks", 0, 256, play_picks},     {"written", 1, 1, play_written},     {"look", 1, 1, play_look},
-    {"steps", 0, 0, play_steps},
     {"fields", 1, 1, play_fields},     {"view", 1, 1, play_view},           {"lentwalk", 1, 1, play_lent_walk},
-    {"lentpick", 1, 1, play_lent_pick},
+    {"lentpick", 1, 1, play_lent_pick}, {"steps", 0, 0, play_steps},
 };
 
 /* Plays one line, which is taken apart. Whether it is in the format. */

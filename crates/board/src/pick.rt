@@ -87,7 +87,8 @@ pub(crate) fn bad_record(memory: &[u8], d: Drive, r: Record) -> bool
 }
 
 // A pick beneath both faces: `length` is how many records the caller's table has, of which these are the first. Both loops that read the
-// table stand here, since a table that is passed on is copied.
+// table stand here, since a table that is passed on is copied. One lifetime for what is lent, as in the two runs, so that the three calls
+// over a lent table are argued once.
 pub fn pick_record<'a>(
     memory: &'a mut [u8],
     image: &'a mut [u8],
