@@ -463,9 +463,16 @@ unfolding tablesOf
 shows-call 𝓤 H 𝓜 𝓖 𝓡 c γ k g putting below-routine unfolded calls-load calls-below below-met finishes =
     let A = 𝓖 .A in
     let W = givenOf 𝓤 H 𝓜 𝓖 in
-    by-hand 𝓤 H 𝓜 𝓖 𝓡 (ended (c .X) (c .ρ)) (clauses 𝓤 c) (stayed (c .X) (c .ρ))
-    (goes-gave-slice 𝓤 H A W 1 0 tt (plain (λ _. u8)), (goes-gave-slice 𝓤 H A W 1 0 tt (plain (λ _. u8)), (goes-dropped 𝓤 H A W 1 (plain (λ _. Dr.the-row)) yes (λ κs x f. refl),
-    (goes-gave-slice 𝓤 H A W 1 0 tt (plain (λ _. R)), (goes-dropped 𝓤 H A W 1 (plain (λ _. usize)) yes (λ κs x f. refl), (goes-dropped 𝓤 H A W 1 (plain (c .X)) yes (c .passed .silent), tt))))))
+    by-hand 𝓤 H 𝓜 𝓖 𝓡 (ended (c .X) (c .ρ)) (clauses 𝓤 c) (stayed (c .X) (c .ρ)) (
+      goes-gave-slice 𝓤 H A W 1 0 tt (plain (λ _. u8)),
+      (
+        goes-gave-slice 𝓤 H A W 1 0 tt (plain (λ _. u8)),
+        (
+          goes-dropped 𝓤 H A W 1 (plain (λ _. Dr.the-row)) yes (λ κs x f. refl),
+          (goes-gave-slice 𝓤 H A W 1 0 tt (plain (λ _. R)), (goes-dropped 𝓤 H A W 1 (plain (λ _. usize)) yes (λ κs x f. refl), (goes-dropped 𝓤 H A W 1 (plain (c .X)) yes (c .passed .silent), tt))),
+        ),
+      ),
+    )
     (λ κs. (slice-vals, (slice-vals, (LL.vals Dr.the-type Dr′.the-laws, (slice-vals, (uint-vals w64, (λ x. c .passed .spell κs x ∷ [], tt)))))))
     (λ κs. (mut-slice-tells (named 0) (κs .0) u8, (mut-slice-tells (named 0) (κs .0) u8, (LL.tells Dr.the-type Dr′.the-laws, (mut-slice-tells (named 0) (κs .0) R, (uint-tells w64, (c .passed .tells κs, tt)))))))
     γ k (code c g putting) unfolded

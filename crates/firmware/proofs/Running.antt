@@ -78,7 +78,7 @@ module _ {M : Type 1} (𝓤 : URA M) (H : Heap 𝓤) (A : Atoms 𝓤) (mem : Mem
 
 module _ (X : Lfts 1 → RattleType) (xt : Ty) (P : Passed X xt) (go : Goes X)
     (face : (κs : Lfts 1) (x : X κs .Denot) (d : Drive) (n : ℕ) (m i : List ℕ) (t : List Record) (r : RanTaken) (m′ i′ : List ℕ) → RunTakes d n (go κs x d n) (length t) (stateOf m i (copiedOut t)) r (lent m′ i′)
-      → RunGives d n (go κs x d n) (stateOf m i t) (r .ran) (stateOf m′ i′ (withSteps r t))) where
+    → RunGives d n (go κs x d n) (stateOf m i t) (r .ran) (stateOf m′ i′ (withSteps r t))) where
   abbrev c : LentCall
   c = a-run X xt P go
 

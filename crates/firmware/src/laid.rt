@@ -19,7 +19,11 @@ ghost use Rattle.firmware.specs.Laid.{over, copiedOut, withRecord, withS
 pub(crate) fn fit(length: usize) -> usize
     ensures { λ n. ⌜ n ≡ min length mostCommands ⌝ }
 {
-    if length < MOST_COMMANDS { length } else { MOST_COMMANDS }
+    if length < MOST_COMMANDS {
+        length
+    } else {
+        MOST_COMMANDS
+    }
 }
 
 // A table of no records.

@@ -26,11 +26,11 @@ pub by-hand : {M : Type 1} (𝓤 : URA M) (H : Heap 𝓤) (𝓜 : Model 𝓤 H) 
     → (sp : (κs : Lfts (T .signature .lifetimes)) → Spells (typesAt (T .signature .params) κs)) → ((κs : Lfts (T .signature .lifetimes)) → Tellss (typesAt (T .signature .params) κs) (Ises (typesAt (T .signature .params) κs)) (sp κs))
     → (γ : Env) (k : Name) (f : Fn) → Closed 𝓤 H (tables 𝓤 H 𝓜 𝓡 γ .C) (tables 𝓤 H 𝓜 𝓡 γ .Λ) k f
     → (let 𝓣 = tablesOf 𝓤 H 𝓜 (tables 𝓤 H 𝓜 𝓡 γ) in
-      (κs : Lfts (T .signature .lifetimes)) (qs : Shares (T .signature .lifetimes)) (bounds : AllOutlive (T .signature .lifetimes) (T .signature .outlives) κs) (a : Args (T .signature) κs) (g : c κs a .ghost)
-      → let vss = valss (typesAt (T .signature .params) κs) (sp κs) a in
-      Are (typesAt (T .signature .params) κs) (Ises (typesAt (T .signature .params) κs)) a vss
-      → ent 𝓤 (sep 𝓤 (onEntry 𝓤 H (𝓖 .A) (T .signature) κs qs a vss) (c κs a .requires g))
-      (WpFn 𝓤 H (𝓣 .C) (𝓣 .Λ) f (flat (typesAt (T .signature .params) κs) vss) (walkOf 𝓤 H (𝓖 .A) T hs c .post ((κs, qs, bounds, a, vss), g))))
+    (κs : Lfts (T .signature .lifetimes)) (qs : Shares (T .signature .lifetimes)) (bounds : AllOutlive (T .signature .lifetimes) (T .signature .outlives) κs) (a : Args (T .signature) κs) (g : c κs a .ghost)
+    → let vss = valss (typesAt (T .signature .params) κs) (sp κs) a in
+    Are (typesAt (T .signature .params) κs) (Ises (typesAt (T .signature .params) κs)) a vss
+    → ent 𝓤 (sep 𝓤 (onEntry 𝓤 H (𝓖 .A) (T .signature) κs qs a vss) (c κs a .requires g))
+    (WpFn 𝓤 H (𝓣 .C) (𝓣 .Λ) f (flat (typesAt (T .signature .params) κs) vss) (walkOf 𝓤 H (𝓖 .A) T hs c .post ((κs, qs, bounds, a, vss), g))))
     → Triple 𝓤 (𝓡 .run (γ k)) (Meant 𝓤 H (𝓖 .A) T c)
 unfolding tablesOf
 by-hand 𝓤 H 𝓜 𝓖 𝓡 T c hs gs sp tells γ k f closed walk =

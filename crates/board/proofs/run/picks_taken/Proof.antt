@@ -313,9 +313,13 @@ loop2-again-2 : tie.Need-loop2-again-2 Inv-loop μ-loop Inv-loop2 μ-loop2 Inv-p
 loop2-again-2 c = let a = c .before .before .before .before .before .before .before .before .before .before .before .before .before .before .before .before .before .before .before .before .before .before .before .before .before .before .args in
     let l = c .before .before .before .before .before .before .before .before .before .before .before .before .before .before .before .before .picks in
     let e = c .before .before .before .before .before .before .before .before .loop2 in
-    let t = tableWith (l .taken) (a .t4) in
-    (omega arith, e .inv .1, e .inv .2, none-more noRecord (blocking (c .before .before .before .before .before .before .before .before .before .before .before .with-taken .result)) t (e .earlier) (inside (c .before .before .before .before .before .before .before)) (e .inv .3)
-    (ap (blocking (c .before .before .before .before .before .before .before .before .before .before .before .with-taken .result)) (sym (there (c .before .before .before .before .before))) ∙ by-conflict (c .before .before .before .before .before .before .before .before .before .before .before .with-taken .result) (c .before .before .before .before .before .with-taken2 .result) _ (sym (c .before .before .before .before .finished2 .ensures) ∙ (c .before .before .before .if4 .left)) (untaken (c .before .before .before .before .before) ∙ sym (c .before .conflict .ensures) ∙ (c .if5 .left))))
+    let t = tableWith (l .taken) (a .t4) in (
+      omega arith,
+      e .inv .1,
+      e .inv .2,
+      none-more noRecord (blocking (c .before .before .before .before .before .before .before .before .before .before .before .with-taken .result)) t (e .earlier) (inside (c .before .before .before .before .before .before .before)) (e .inv .3)
+          (ap (blocking (c .before .before .before .before .before .before .before .before .before .before .before .with-taken .result)) (sym (there (c .before .before .before .before .before))) ∙ by-conflict (c .before .before .before .before .before .before .before .before .before .before .before .with-taken .result) (c .before .before .before .before .before .with-taken2 .result) _ (sym (c .before .before .before .before .finished2 .ensures) ∙ (c .before .before .before .if4 .left)) (untaken (c .before .before .before .before .before) ∙ sym (c .before .conflict .ensures) ∙ (c .if5 .left))),
+    )
 
 mul-searched-2 : tie.Need-mul-searched-2 Inv-loop μ-loop Inv-loop2 μ-loop2 Inv-picks μ-picks
 mul-searched-2 c = omega (arith, in-table (c .before .before .before .before .before .before))

@@ -219,9 +219,13 @@ unfolding code.routine tablesOf
 rosadenca-walk-spec 𝓤 H 𝓜 𝓖 𝓡 =
     let A = 𝓖 .A in
     let W = givenOf 𝓤 H 𝓜 𝓖 in
-    by-hand 𝓤 H 𝓜 𝓖 𝓡 f.ended (f.clauses 𝓤 H A (𝓜 .mem) (𝓡 .run)) stayed
-    (goes-dropped 𝓤 H A W 3 (SliceRefOf (0 ∷ []) tt (plain (λ _. u8)) (λ _. tt)) yes (λ κs x f. refl), (goes-dropped 𝓤 H A W 3 (SliceRefOf (1 ∷ []) tt (plain (λ _. u8)) (λ _. tt)) yes (λ κs x f. refl),
-    (goes-dropped 𝓤 H A W 3 (plain (λ _. Dr.the-row)) yes (λ κs x f. refl), (goes-dropped 𝓤 H A W 3 (plain (λ _. u32)) yes (λ κs x f. refl), (goes-gave-slice 𝓤 H A W 3 2 tt (plain (λ _. R)), tt)))))
+    by-hand 𝓤 H 𝓜 𝓖 𝓡 f.ended (f.clauses 𝓤 H A (𝓜 .mem) (𝓡 .run)) stayed (
+      goes-dropped 𝓤 H A W 3 (SliceRefOf (0 ∷ []) tt (plain (λ _. u8)) (λ _. tt)) yes (λ κs x f. refl),
+      (
+        goes-dropped 𝓤 H A W 3 (SliceRefOf (1 ∷ []) tt (plain (λ _. u8)) (λ _. tt)) yes (λ κs x f. refl),
+        (goes-dropped 𝓤 H A W 3 (plain (λ _. Dr.the-row)) yes (λ κs x f. refl), (goes-dropped 𝓤 H A W 3 (plain (λ _. u32)) yes (λ κs x f. refl), (goes-gave-slice 𝓤 H A W 3 2 tt (plain (λ _. R)), tt))),
+      ),
+    )
     (λ κs. (slice-vals, (slice-vals, (LL.vals Dr.the-type Dr′.the-laws, (uint-vals w32, (slice-vals, tt))))))
     (λ κs. (shr-slice-tells (named 0) (κs .0) u8, (shr-slice-tells (named 1) (κs .1 .0) u8, (LL.tells Dr.the-type Dr′.the-laws, (uint-tells w32, (mut-slice-tells (named 2) (κs .1 .1 .0) R, tt))))))
     code.env #walk code.function (code.unfolded 𝓤 H 𝓜 𝓡)
