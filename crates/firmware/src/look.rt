@@ -24,7 +24,7 @@ pub extern "C" fn rosadenca_look(image: &[u8], drive: Drive, sector: u32) -> Par
         return Part { at: 0, length: 0 };
     }
     Part {
-        at: 512 * sector as usize,
-        length: 512,
+        at: drive::SECTOR_BYTES as usize * sector as usize,
+        length: drive::SECTOR_BYTES as usize,
     }
 }

@@ -1,4 +1,4 @@
-// The thirty bytes of an IOPB: each field of document 01's table, read from a slice at an address.
+// The thirty bytes of an IOPB: each field (IOPB 3 to 14), read from a slice at an address.
 // Numbers of several bytes have the high byte first. Where the thirty bytes are not all in the slice, every field is 0.
 ghost use mathlib.Core.Path.{_≡_};
 ghost use Prim.Native.Nat.{_<_};

@@ -6,8 +6,8 @@ use Prim.Native.Nat.{ℕ, _+_, _*_, _≤_, _<_}
 use mathlib.Core.List.{List, [], _∷_}
 use lib.ListN.{length, getD, take, drop}
 use Rattle.meaning.specs.declared.Drive.{Drive}
-use Rattle.meaning.specs.Store.{Store, theDisk}
-use Rattle.meaning.specs.Sectors.{sectorBytes, sectorCount}
+use Rattle.meaning.specs.Store.{Store, theDisk, theUnit}
+use Rattle.meaning.specs.Sectors.{sectorBytes, sectorCount, onDisk}
 use Rattle.meaning.specs.Look.{lookNumber, lookPart, lookedPart}
 use Rattle.meaning.specs.Table.{Case, _⇒_, Otherwise, Given}
 use Rattle.meaning.specs.Conditions.{ImageWrong}
@@ -23,5 +23,5 @@ module _ (d : Drive) (n : ℕ) (s : Store) where
   pub record LookGives : Type 0 where
     pub empty : (lookPart d n s ≡ []) ↔ (lookNumber d n s ≢ 0)
     pub whole : lookNumber d n s ≡ 0 → length (lookPart d n s) ≡ sectorBytes
-    pub bytes : lookNumber d n s ≡ 0 → (j : ℕ) → j < sectorBytes → getD (lookPart d n s) j 0 ≡ getD (s theDisk) (sectorBytes * n + j) 0
+    pub bytes : lookNumber d n s ≡ 0 → (j : ℕ) → j < sectorBytes → getD (lookPart d n s) j 0 ≡ getD (s theDisk) (onDisk theUnit n .from + j) 0
     pub named : lookPart d n s ≡ take (lookedPart d n s .length) (drop (lookedPart d n s .at) (s theDisk))

@@ -2,14 +2,14 @@
 -- d is the drive, r the record of the command, s memory and image before the step, s′ after.
 use mathlib.Core.Path.{_≡_}
 use mathlib.Core.Logic.{_⊎_}
-use Prim.Native.Nat.{ℕ, _+_, _*_, _<_}
+use Prim.Native.Nat.{ℕ, _+_, _<_}
 use lib.ListN.{length, getD}
 use Rattle.meaning.specs.declared.Drive.{Drive}
 use Rattle.meaning.specs.declared.Record.{Record}
 use Rattle.meaning.specs.Store.{Space, memory, Store, theDisk}
 use Rattle.meaning.specs.Sectors.{sectorBytes}
 use Rattle.meaning.specs.Command.{stepsOf}
-use Rattle.meaning.specs.Step.{closing, step}
+use Rattle.meaning.specs.Step.{sectorAt, dataAt, closing, step}
 use Rattle.meaning.specs.Conditions.{Within, StoreWrong, Reads, Writes, Finished, BadRecord}
 
 -- a step that numbers 1, 9 and 7 do not refuse
@@ -23,10 +23,10 @@ abbrev pub sectorOf : Record → ℕ
 sectorOf r = r .sector + r .taken
 
 abbrev pub onImage : Record → ℕ
-onImage r = sectorBytes * sectorOf r
+onImage r = sectorAt r (r .taken) .from
 
 abbrev pub inMemory : Record → ℕ
-inMemory r = r .address + sectorBytes * r .taken
+inMemory r = dataAt r (r .taken) .from
 
 -- the last step also closes the command (Step 4)
 abbrev pub Last : Record → Type 0

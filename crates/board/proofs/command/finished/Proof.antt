@@ -1,4 +1,4 @@
--- `board::command::finished` meets its contract: the steps are what the call ensures. Assumes nothing.
+-- `board::command::finished` meets its contract: the steps are what the call ensures.
 use mathlib.Core.Path.{ap}
 use Prim.Native.Nat.{ℕ}
 use lib.Dec.{leb}

@@ -1,4 +1,4 @@
--- `board::command::reads` meets its contract: the code's test decides the first half of the "and". Assumes nothing.
+-- `board::command::reads` meets its contract: the code's test decides the first half of the "and".
 use borrow.Author.Tests.{eq-eqb, ne-eqb}
 use Rattle.board.proofs.command.reads.Statement.{statement}
 use Rattle.board.proofs.command.reads.Tie as tie

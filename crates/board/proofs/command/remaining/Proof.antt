@@ -1,4 +1,4 @@
--- `board::command::remaining` meets its contract: a difference that does not go below 0. Assumes nothing.
+-- `board::command::remaining` meets its contract: a difference that does not go below 0.
 use mathlib.Core.Path.{ap}
 use Prim.Native.Nat.{ℕ, _-_}
 use native.Mathlib.Omega.{arith}

@@ -1,4 +1,4 @@
--- `board::command::steps_of` meets its contract: its test decides between the count and one. Assumes nothing.
+-- `board::command::steps_of` meets its contract: its test decides between the count and one.
 use mathlib.Core.Path.{sym, _∙_}
 use Rattle.meaning.specs.Command.{stepsOf}
 use Rattle.meaning.proofs.Rows.{pass, stop}

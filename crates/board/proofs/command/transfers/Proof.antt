@@ -1,4 +1,4 @@
--- `board::command::transfers` meets its contract: a command that does not read transfers if it writes. Assumes nothing.
+-- `board::command::transfers` meets its contract: a command that does not read transfers if it writes.
 use mathlib.Core.Path.{sym, _∙_}
 use Rattle.meaning.proofs.Rows.{or-first, or-second}
 use borrow.Author.Needs.{needs}
