@@ -60,8 +60,9 @@ fn move_sectors(memory: &mut [u8], image: &mut [u8], r: Record, n: u32)
     requires { ⌜ (1 ≤ n) × Ready n r (lent (now memory) (now image)) ⌝ }
     ensures { λ _. ⌜ lent (now (memory .exit)) (now (image .exit)) ≡ sectorsMoved n r (lent (now (memory .entry)) (now (image .entry))) ⌝ }
 {
-    let on_disk = SECTOR_BYTES * (r.sector as usize + r.taken as usize);
-    let in_memory = r.address as usize + SECTOR_BYTES * r.taken as usize;
+    let step = r.taken as usize;
+    let on_disk = SECTOR_BYTES * (r.sector as usize + step);
+    let in_memory = r.address as usize + SECTOR_BYTES * step;
     let size = SECTOR_BYTES * n as usize;
     if command::reads(r) {
         copy_part(image, on_disk, memory, in_memory, size);

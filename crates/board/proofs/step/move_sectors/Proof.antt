@@ -9,11 +9,11 @@ use borrow.Author.Needs.{needs}
 use Rattle.board.proofs.step.move_sectors.Statement.{statement}
 use Rattle.board.proofs.step.move_sectors.Tie as tie
 
+cast-step : tie.Need-cast-step
+cast-step c = search needs
+
 cast-on-disk : tie.Need-cast-on-disk
 cast-on-disk c = search needs
-
-cast-on-disk-2 : tie.Need-cast-on-disk-2
-cast-on-disk-2 c = search needs
 
 add-on-disk : tie.Need-add-on-disk
 add-on-disk c = search needs
@@ -23,9 +23,6 @@ mul-on-disk c = search needs
 
 cast-in-memory : tie.Need-cast-in-memory
 cast-in-memory c = search needs
-
-cast-in-memory-2 : tie.Need-cast-in-memory-2
-cast-in-memory-2 c = search needs
 
 mul-in-memory : tie.Need-mul-in-memory
 mul-in-memory c = search needs
@@ -40,10 +37,10 @@ reads-requires : tie.Need-reads-requires
 reads-requires c κs = search needs
 
 copy-part-requires : tie.Need-copy-part-requires
-copy-part-requires c κs = let a = c .before .before .before .before .before .before .before .before .before .before .args in
+copy-part-requires c κs = let a = c .before .before .before .before .before .before .before .before .before .args in
     let s = lent (a .memory .now) (a .image .now) in
     let t = or-first _ _ (sym (c .before .before .before .reads .ensures) ∙ (c .before .before .if1 .taken)) in
-    (room-on-disk (a .n) (a .r) s (c .before .before .before .before .before .before .before .before .before .before .pre .1) (c .before .before .before .before .before .before .before .before .before .before .pre .0) t, room-in-memory (a .n) (a .r) s (c .before .before .before .before .before .before .before .before .before .before .pre .1) (c .before .before .before .before .before .before .before .before .before .before .pre .0) t)
+    (room-on-disk (a .n) (a .r) s (c .before .before .before .before .before .before .before .before .before .pre .1) (c .before .before .before .before .before .before .before .before .before .pre .0) t, room-in-memory (a .n) (a .r) s (c .before .before .before .before .before .before .before .before .before .pre .1) (c .before .before .before .before .before .before .before .before .before .pre .0) t)
 
 same-length : tie.Need-same-length
 same-length c = search needs
@@ -52,20 +49,20 @@ same-length-2 : tie.Need-same-length-2
 same-length-2 c = search needs
 
 returns : tie.Need-returns
-returns c = let a = c .before .before .before .before .before .before .before .before .before .before .before .before .before .args in
+returns c = let a = c .before .before .before .before .before .before .before .before .before .before .before .before .args in
     let s = lent (a .memory .now) (a .image .now) in
     let reading = sym (c .before .before .before .before .before .before .reads .ensures) ∙ (c .before .before .before .before .before .if1 .taken) in
-    let room = room-on-disk (a .n) (a .r) s (c .before .before .before .before .before .before .before .before .before .before .before .before .before .pre .1) (c .before .before .before .before .before .before .before .before .before .before .before .before .before .pre .0) (or-first _ _ reading) in
+    let room = room-on-disk (a .n) (a .r) s (c .before .before .before .before .before .before .before .before .before .before .before .before .pre .1) (c .before .before .before .before .before .before .before .before .before .before .before .before .pre .0) (or-first _ _ reading) in
     ap (λ (x : List ℕ). lent x (a .image .now)) (c .before .before .copy-part .ensures) ∙ sym (read-moved (a .n) (a .r) (a .memory .now) (a .image .now) reading room)
 
 writes-requires : tie.Need-writes-requires
 writes-requires c κs = search needs
 
 copy-part-requires-2 : tie.Need-copy-part-requires-2
-copy-part-requires-2 c κs = let a = c .before .before .before .before .before .before .before .before .before .before .before .before .args in
+copy-part-requires-2 c κs = let a = c .before .before .before .before .before .before .before .before .before .before .before .args in
     let s = lent (a .memory .now) (a .image .now) in
     let t = or-second _ _ (sym (c .before .before .before .before .before .reads .ensures) ∙ (c .before .before .before .before .if1 .left)) ∙ (sym (c .before .before .before .writes .ensures) ∙ (c .before .before .if2 .taken)) in
-    (room-in-memory (a .n) (a .r) s (c .before .before .before .before .before .before .before .before .before .before .before .before .pre .1) (c .before .before .before .before .before .before .before .before .before .before .before .before .pre .0) t, room-on-disk (a .n) (a .r) s (c .before .before .before .before .before .before .before .before .before .before .before .before .pre .1) (c .before .before .before .before .before .before .before .before .before .before .before .before .pre .0) t)
+    (room-in-memory (a .n) (a .r) s (c .before .before .before .before .before .before .before .before .before .before .before .pre .1) (c .before .before .before .before .before .before .before .before .before .before .before .pre .0) t, room-on-disk (a .n) (a .r) s (c .before .before .before .before .before .before .before .before .before .before .before .pre .1) (c .before .before .before .before .before .before .before .before .before .before .before .pre .0) t)
 
 same-length-3 : tie.Need-same-length-3
 same-length-3 c = search needs
@@ -74,27 +71,26 @@ same-length-4 : tie.Need-same-length-4
 same-length-4 c = search needs
 
 returns-2 : tie.Need-returns-2
-returns-2 c = let a = c .before .before .before .before .before .before .before .before .before .before .before .before .before .before .before .args in
+returns-2 c = let a = c .before .before .before .before .before .before .before .before .before .before .before .before .before .before .args in
     let s = lent (a .memory .now) (a .image .now) in
     let reading = sym (c .before .before .before .before .before .before .before .before .reads .ensures) ∙ (c .before .before .before .before .before .before .before .if1 .left) in
     let writing = sym (c .before .before .before .before .before .before .writes .ensures) ∙ (c .before .before .before .before .before .if2 .taken) in
-    let room = room-in-memory (a .n) (a .r) s (c .before .before .before .before .before .before .before .before .before .before .before .before .before .before .before .pre .1) (c .before .before .before .before .before .before .before .before .before .before .before .before .before .before .before .pre .0) (or-second _ _ reading ∙ writing) in
+    let room = room-in-memory (a .n) (a .r) s (c .before .before .before .before .before .before .before .before .before .before .before .before .before .before .pre .1) (c .before .before .before .before .before .before .before .before .before .before .before .before .before .before .pre .0) (or-second _ _ reading ∙ writing) in
     ap (λ (x : List ℕ). lent (a .memory .now) x) (c .before .before .copy-part2 .ensures) ∙ sym (write-moved (a .n) (a .r) (a .memory .now) (a .image .now) reading writing room)
 
 returns-3 : tie.Need-returns-3
-returns-3 c = let a = c .before .before .before .before .before .before .before .before .before .before .args in
+returns-3 c = let a = c .before .before .before .before .before .before .before .before .before .args in
     sym (none-moved (a .n) (a .r) (lent (a .memory .now) (a .image .now)) (sym (c .before .before .before .reads .ensures) ∙ (c .before .before .if1 .left)) (sym (c .before .writes .ensures) ∙ (c .if2 .left)))
 
 pub move-sectors-spec : {M : Type 1} → statement M
 move-sectors-spec =
     tie.close
     (tie.spec
+    cast-step
     cast-on-disk
-    cast-on-disk-2
     add-on-disk
     mul-on-disk
     cast-in-memory
-    cast-in-memory-2
     mul-in-memory
     add-in-memory
     mul-size
