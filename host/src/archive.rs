@@ -3,16 +3,10 @@
 //! so nothing that a caller can pass here breaks what the C header says a caller owes.
 
 use crate::declared as c;
-use crate::declared::{Drive, Ran, Walked, Part, Record};
+use crate::declared::{Drive, Part, Ran, Record, Walked};
 
 /// Walks the chain that starts at an address into the lent table.
-pub fn walk(
-    memory: &[u8],
-    image: &[u8],
-    drive: Drive,
-    start: u32,
-    table: &mut [Record],
-) -> Walked {
+pub fn walk(memory: &[u8], image: &[u8], drive: Drive, start: u32, table: &mut [Record]) -> Walked {
     // SAFETY: every pointer stands beside the length of its own slice, and the slices are apart.
     unsafe {
         c::rosadenca_walk(

@@ -1,7 +1,7 @@
 //! What a board is to its callers, so that the same tests and the same clock can be held to any:
 //! the archive, and the board written in the ordinary way.
 
-use crate::declared::{Drive, Ran, Walked, Part, Record};
+use crate::declared::{Drive, Part, Ran, Record, Walked};
 use crate::field::Fields;
 use crate::{archive, field, ordinary};
 

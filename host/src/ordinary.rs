@@ -1,8 +1,8 @@
 //! A board written in the ordinary way in Rust, with the same replies and no proofs: what the
 //! firmware's speed is measured against, so it is written for speed as far as it stays easy to read.
 //! It works in the lent table and copies none, tests sizes and table once a call, moves sectors that
-//! follow each other by one copy, and within a run never asks twice whether one command waits for
-//! another. Its calls are not inlined, as the archive's cannot be, so that no caller's own numbers
+//! follow each other by one copy, works out once in a run what each command touches, and never asks
+//! twice there whether one command waits for another. Its calls are not inlined, as the archive's cannot be, so that no caller's own numbers
 //! are worked into them. The tests hold it to the second program.
 //!
 //! Tried and left out: each field of the records in an array of its own, and for each place a mask of
@@ -10,7 +10,7 @@
 //! by picks of 32 commands, last to first, where alone it was tried, then took 1.9 us in place of 2.7;
 //! it was hard to read. Masks without such arrays were slower than none.
 
-use crate::declared::{Drive, Ran, Walked, Part, Record};
+use crate::declared::{Drive, Part, Ran, Record, Walked};
 use crate::field::Fields;
 use std::ops::Range;
 
@@ -105,7 +105,8 @@ fn code(bounds: &Bounds, drive: Drive, f: &Fields, first: u64) -> u8 {
         0x12
     } else if !bounds.hold_sectors(first, f.count) {
         0x10
-    } else if f.command == WRITE_DATA && bounds.protected {
+    // no branch on the command: reads and writes often take turns
+    } else if (f.command == WRITE_DATA) & bounds.protected {
         0x90
     } else if !bounds.hold_data(f.data_address, f.count) {
         0x4B
@@ -114,34 +115,28 @@ fn code(bounds: &Bounds, drive: Drive, f: &Fields, first: u64) -> u8 {
     }
 }
 
-/// Follows the chain, and notes where its IOPBs are; the error is the number. Whether IOPBs share
-/// bytes is asked of all at once: those that were found come before what ended the search.
+/// Follows the chain, and notes where its IOPBs are; the error is the number. An IOPB that lies past
+/// all earlier ones shares no byte with them: only where one goes back are they looked at.
 fn follow(memory: &[u8], start: u32, found: &mut [u32; MOST_COMMANDS]) -> Result<usize, u8> {
     if start % 2 == 1 {
         return Err(2);
     }
-    let (mut at, mut commands) = (start, 0);
-    let ended = loop {
-        if commands == MOST_COMMANDS {
-            break Err(5);
+    let (mut at, mut past) = (start, 0);
+    for commands in 0..MOST_COMMANDS {
+        let bytes = iopb(memory, at).ok_or(3)?;
+        if at >= past {
+            past = at + IOPB as u32;
+        } else if found[..commands].iter().any(|earlier| earlier.abs_diff(at) < IOPB as u32) {
+            return Err(4);
         }
-        let Some(bytes) = iopb(memory, at) else {
-            break Err(3);
-        };
         found[commands] = at;
-        commands += 1;
         let f = fields(bytes);
         if f.chen == 0 || f.next_address % 2 == 1 {
-            break Ok(commands);
+            return Ok(commands + 1);
         }
         at = f.next_address;
-    };
-    let mut sorted = *found;
-    sorted[..commands].sort_unstable();
-    if sorted[..commands].windows(2).any(|two| two[1] - two[0] < IOPB as u32) {
-        return Err(4);
     }
-    ended
+    Err(5)
 }
 
 /// The record of the command whose IOPB is at an address.
@@ -164,13 +159,7 @@ fn record(memory: &[u8], bounds: &Bounds, drive: Drive, at: u32) -> Record {
 /// A refused walk leaves the table alone, so the chain is followed to its end before a record is
 /// written.
 #[inline(never)]
-pub fn walk(
-    memory: &[u8],
-    image: &[u8],
-    drive: Drive,
-    start: u32,
-    table: &mut [Record],
-) -> Walked {
+pub fn walk(memory: &[u8], image: &[u8], drive: Drive, start: u32, table: &mut [Record]) -> Walked {
     if !sizes_right(memory, image, drive, table) {
         return Walked { number: 1, commands: 0 };
     }
@@ -288,11 +277,10 @@ fn conflict(one: &Touched, other: &Touched) -> bool {
         || (either(Kind::Write) && meet(&one.sectors, &other.sectors))
 }
 
-/// The first place from `from` on, before `place`, whose command is unfinished and conflicts.
-fn blocker(table: &[Record], from: usize, place: usize) -> Option<usize> {
+/// Whether an unfinished command before `place` conflicts with the one there.
+fn waits(table: &[Record], place: usize) -> bool {
     let wanted = touched(&table[place]);
-    let blocks = |earlier: &Record| !finished(earlier) && conflict(&touched(earlier), &wanted);
-    table[from..place].iter().position(blocks).map(|found| from + found)
+    table[..place].iter().any(|earlier| !finished(earlier) && conflict(&touched(earlier), &wanted))
 }
 
 /// Takes so many steps of a command, which has as many left, and closes it after its last.
@@ -334,7 +322,7 @@ pub fn pick(
         8
     } else if finished(&table[place]) {
         7
-    } else if blocker(table, 0, place).is_some() {
+    } else if waits(table, place) {
         6
     } else {
         take(memory, image, drive, &mut table[place], 1);
@@ -359,28 +347,29 @@ pub fn run_picks(
     if number != 0 {
         return ran;
     }
+    let touches: [Touched; MOST_COMMANDS] = std::array::from_fn(|k| touched(&table[k]));
+    let mut left = [0; MOST_COMMANDS];
+    for (left, record) in left.iter_mut().zip(&table[..commands]) {
+        *left = steps(record) - record.taken;
+    }
     let mut searched = [0; MOST_COMMANDS];
     for same in picks.chunk_by(|one, next| one == next) {
         let (place, named) = (usize::from(same[0]), same.len() as u64);
-        let mut left = 0;
-        if place < commands {
-            left = u64::from(steps(&table[place]) - table[place].taken);
-        }
-        if left > 0 {
-            let found = blocker(table, searched[place], place);
+        let mut taken = 0;
+        if place < commands && left[place] > 0 {
+            let blocks = |k: &usize| left[*k] > 0 && conflict(&touches[*k], &touches[place]);
+            let found = (searched[place]..place).find(blocks);
             searched[place] = found.unwrap_or(place);
-            if found.is_some() {
-                left = 0;
+            if found.is_none() {
+                taken = u64::from(left[place]).min(named);
+                take(memory, image, drive, &mut table[place], taken as u32);
+                left[place] -= taken as u32;
             }
-        }
-        let taken = left.min(named);
-        if taken > 0 {
-            take(memory, image, drive, &mut table[place], taken as u32);
         }
         ran.steps += taken;
         ran.refused += named - taken;
     }
-    ran.finished = table[..commands].iter().all(finished);
+    ran.finished = left.iter().all(|&left| left == 0);
     ran
 }
 

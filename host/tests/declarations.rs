@@ -4,7 +4,7 @@
 
 mod reading;
 
-use host::declared::{Drive, Iopb, Ran, Walked, Part, Record};
+use host::declared::{Drive, Iopb, Part, Ran, Record, Walked};
 use reading::{c_header, differences, rattle, rust, Declared};
 use std::mem::{align_of, offset_of, size_of};
 use std::path::{Path, PathBuf};

@@ -1,13 +1,13 @@
--- Laws beneath the proofs of this crate. First a store of two lent slices, and steps on it, one or several at once; then what two
--- commands touch, and what the tests of a pick show; then tables that differ in their steps taken, and the loops of the two runs; last
+-- Laws beneath the proofs of this crate. First a store of two lent slices, and steps on it, one or several at once; then the
+-- search for a blocking command, and what the tests of a pick show; then tables that differ in their steps taken, and the loops of the two runs; last
 -- what a pick and a run tell of a caller's whole table.
 pub mod Edge
 pub mod Copying
 pub mod Moving
-pub mod Touching
 pub mod Searching
 pub mod Picking
 pub mod Taken
+pub mod Footprints
 pub mod Opening
 pub mod Runs
 pub mod ByPicks

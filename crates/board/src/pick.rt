@@ -1,16 +1,16 @@
 // A pick: the numbers 1, 9, 8, 7, 6, 0 in that order (Pick 2 to 7), and on 0 one step at its place. What a pick changes is one record, so
 // beneath its two faces, the table by value and the lent one, it hands back that record and not the table.
 use crate::RECORDS;
-use crate::command;
 use crate::step;
-use crate::touch;
+use crate::table;
 use chain::sizes;
+use command::sound;
+use command::touch;
 use meaning::Drive;
 use meaning::PickedTable;
 use meaning::Record;
 ghost use mathlib.Core.Path.{_≡_};
 ghost use mathlib.Core.Bool.{_||_};
-ghost use mathlib.Core.List.{[]};
 ghost use lib.Dec.{ltb};
 ghost use Rattle.meaning.specs.Store.{lent};
 ghost use Rattle.meaning.specs.State.{stateOf, mostCommands};
@@ -50,42 +50,6 @@ pub(crate) fn sizes_wrong(memory: &[u8], image: &[u8], d: Drive, length: usize) 
     length < RECORDS
 }
 
-// A transfer with count zero, with data or sectors outside memory or drive, or writing to a protected drive (Spoiled 4 to 7).
-fn bad_transfer(memory: &[u8], d: Drive, r: Record) -> bool
-    ensures { λ b. ⌜ b ≡ pick.badTransfer d (lent (now (memory .entry)) []) r ⌝ }
-{
-    if r.count == 0 {
-        return true;
-    }
-    if (memory.len() as u64) < r.address as u64 + drive::SECTOR_BYTES * r.count as u64 {
-        return true;
-    }
-    if drive::past_end(drive::sectors(d), r.sector, r.count) {
-        return true;
-    }
-    if command::writes(r) {
-        return d.protected;
-    }
-    false
-}
-
-// A record that no table in use may hold (Spoiled 2 to 7).
-pub(crate) fn bad_record(memory: &[u8], d: Drive, r: Record) -> bool
-    ensures { λ b. ⌜ b ≡ pick.badRecord d (lent (now (memory .entry)) []) r ⌝ }
-{
-    if !iopb::all_in(memory, r.iopb) {
-        return true;
-    }
-    let steps = command::steps_of(r);
-    if steps < r.taken {
-        return true;
-    }
-    if command::transfers(r) {
-        return bad_transfer(memory, d, r);
-    }
-    false
-}
-
 // A pick beneath both faces: `length` is how many records the caller's table has, of which these are the first. Both loops that read the
 // table stand here, since a table that is passed on is copied. One lifetime for what is lent, as in the two runs, so that the three calls
 // over a lent table are argued once.
@@ -108,7 +72,7 @@ pub fn pick_record<'a>(
     }
     let mut k = 0;
     while k < commands {
-        if bad_record(memory, d, table[k]) {
+        if sound::bad_record(memory, d, table[k]) {
             return refused(9);
         }
         k += 1;
@@ -134,7 +98,7 @@ pub fn pick_record<'a>(
     step::take_steps(memory, image, d, r, 1);
     PickedRecord {
         number: 0,
-        after: command::with_taken(r, r.taken + 1),
+        after: table::with_taken(r, r.taken + 1),
     }
 }
 

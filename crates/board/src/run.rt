@@ -1,10 +1,11 @@
 // The two runs: by a lent list of picks, and as written within a step budget. Numbers 1 and 9 are tested once, before anything moves
 // (Run 8). What a run changes is the steps taken, so beneath its two faces it hands back those and not the table.
 use crate::RECORDS;
-use crate::command;
 use crate::pick;
 use crate::step;
-use crate::touch;
+use crate::table;
+use command::sound;
+use command::touch;
 use meaning::Drive;
 use meaning::Ran;
 use meaning::RanTable;
@@ -16,7 +17,7 @@ ghost use mathlib.Core.List.{[]};
 ghost use Rattle.meaning.specs.Store.{lent};
 ghost use Rattle.meaning.specs.State.{stateOf};
 ghost use Rattle.meaning.specs.Run as run;
-ghost use Rattle.board.specs.Changes.{RunTakes, refusedRun, tableWith};
+ghost use Rattle.board.specs.Changes.{RunTakes, refusedRun};
 ghost use Rattle.board.specs.Opening.{seenWith, firstNumber};
 ghost use Rattle.board.specs.Alike.{Alike};
 
@@ -50,7 +51,7 @@ fn with_record(seen: Seen, memory: &[u8], d: Drive, r: Record, in_use: bool) -> 
     }
     Seen {
         left,
-        spoiled: pick::bad_record(memory, d, r),
+        spoiled: sound::bad_record(memory, d, r),
     }
 }
 
@@ -135,8 +136,8 @@ fn picks_alike(picks: &[u8], from: usize, left: u32) -> u32
 // A run by picks beneath both faces: `length` is how many records the caller's table has, of which these are the first. All loops that
 // read the table stand here, since a table that is passed on is copied. What two commands touch does not change with their steps, and a
 // command only ever comes nearer to its end: an earlier command that once did not block a place never blocks it again. So the search of
-// a pick goes on where the last one at its place stopped: `searched` holds how many earlier commands are known not to block it. Picks in
-// a row at a place that may go take their steps at once.
+// a pick goes on where the last one at its place stopped: `searched` holds how many earlier commands are known not to block it, and all
+// footprints are worked out before the first pick. Picks in a row at a place that may go take their steps at once.
 pub fn picks_taken<'a>(
     memory: &'a mut [u8],
     image: &'a mut [u8],
@@ -149,6 +150,7 @@ pub fn picks_taken<'a>(
     ensures { λ r. ⌜ RunTakes d commands (run.byPicks d commands (now (picks .entry))) length (stateOf (now (memory .entry)) (now (image .entry)) table) r (lent (now (memory .exit)) (now (image .exit))) ⌝ }
 {
     let mut taken = [0u32; 32];
+    let mut footprints = [touch::no_footprint(); 32];
     let mut seen = Seen {
         left: 0,
         spoiled: RECORDS < commands,
@@ -157,6 +159,7 @@ pub fn picks_taken<'a>(
     while k < RECORDS {
         let r = table[k];
         taken[k] = r.taken;
+        footprints[k] = touch::footprint_of(r);
         seen = with_record(seen, memory, d, r, k < commands);
         k += 1;
     }
@@ -179,19 +182,20 @@ pub fn picks_taken<'a>(
             passed += 1;
             continue;
         }
-        let r = command::with_taken(table[place], taken[place]);
+        let r = table::with_taken(table[place], taken[place]);
         if command::finished(r) {
             passed += 1;
             continue;
         }
+        let wanted = footprints[place];
         let mut earlier = searched[place];
         while earlier < place {
-            let e = command::with_taken(table[earlier], taken[earlier]);
-            if command::finished(e) {
+            let e = footprints[earlier];
+            if e.steps <= taken[earlier] {
                 earlier += 1;
                 continue;
             }
-            if touch::conflict(table[earlier], r) {
+            if touch::footprints_meet(e, wanted) {
                 searched[place] = earlier;
                 passed += 1;
                 continue 'picks;
@@ -264,19 +268,6 @@ pub fn written_taken<'a>(
     RanTaken { ran, taken }
 }
 
-// The table with these steps taken.
-fn table_with(table: [Record; 32], taken: [u32; 32]) -> [Record; 32]
-    ensures { λ t. ⌜ t ≡ tableWith taken table ⌝ }
-{
-    let mut after = table;
-    let mut k = 0;
-    while k < RECORDS {
-        after[k] = command::with_taken(after[k], taken[k]);
-        k += 1;
-    }
-    after
-}
-
 // A run by picks on a table by value: a refused pick is passed over, and counted. On 1 and 9 nothing is changed.
 pub fn run_picks(
     memory: &mut [u8],
@@ -293,7 +284,7 @@ pub fn run_picks(
     let taken = r.taken;
     RanTable {
         ran,
-        table: table_with(table, taken),
+        table: table::table_with(table, taken),
     }
 }
 
@@ -313,6 +304,6 @@ pub fn run_written(
     let taken = r.taken;
     RanTable {
         ran,
-        table: table_with(table, taken),
+        table: table::table_with(table, taken),
     }
 }

@@ -1,13 +1,13 @@
 // Steps of a command, one or several at once: its sectors move between memory and image, and the last step closes the command. Sectors
-// that follow each other lie side by side in both, so several go as one copy.
-use crate::command;
+// that follow each other lie side by side in both.
+use command::closing;
 use meaning::Drive;
 use meaning::Record;
 ghost use mathlib.Core.Path.{_≡_};
-ghost use Prim.Native.Nat.{_+_, _≤_};
-ghost use mathlib.Core.Bool.{cond};
+ghost use Prim.Native.Nat.{_+_, _*_, _≤_};
 ghost use lib.ListN.{length, take, drop};
 ghost use lib.Seq.{sets};
+ghost use Rattle.meaning.specs.Sectors.{sectorBytes};
 ghost use Rattle.meaning.specs.Store.{lent};
 ghost use Rattle.meaning.specs.Command.{remaining};
 ghost use Rattle.meaning.specs.Step as step;
@@ -28,31 +28,31 @@ fn copy_part(src: &[u8], from: usize, dst: &mut [u8], to: usize, size: usize)
     bytes::copy(&src[from..from_end], &mut dst[to..to_end]);
 }
 
+// So many sectors of src, from the byte `from` on, go to dst from the byte `to` on: one after another, since a copy of a length that the
+// compiler knows is the faster.
+fn copy_sectors(src: &[u8], from: usize, dst: &mut [u8], to: usize, n: usize)
+    requires { ⌜ (from + sectorBytes * n ≤ length (now src)) × (to + sectorBytes * n ≤ length (now dst)) ⌝ }
+    ensures { λ _. ⌜ now (dst .exit) ≡ sets (now (dst .entry)) to (take (sectorBytes * n) (drop from (now (src .entry)))) ⌝ }
+{
+    let mut k = 0;
+    while k < n {
+        let done = SECTOR_BYTES * k;
+        copy_part(src, from + done, dst, to + done, SECTOR_BYTES);
+        k += 1;
+    }
+}
+
 // The close: bytes 0 to 3 of the command's own IOPB, byte 0 from the copied one.
 fn close(memory: &mut [u8], d: Drive, r: Record)
     requires { ⌜ r .iopb + 4 ≤ length (now memory) ⌝ }
     ensures { λ _. ⌜ now (memory .exit) ≡ sets (now (memory .entry)) (r .iopb) (step.closing d r) ⌝ }
 {
+    let posted = closing::posted(d, r);
     let at = r.iopb as usize;
-    memory[at] = closing_byte0(r);
-    memory[at + 1] = r.code;
-    memory[at + 2] = drive_status(d);
-    memory[at + 3] = 0;
-}
-
-// Byte 0 of a close: the copied one with DONE set, and ERRS set exactly if the code is not 00.
-fn closing_byte0(r: Record) -> u8
-    ensures { λ b. ⌜ b ≡ step.closingByte0 r ⌝ }
-{
-    let done = r.byte0 % 64 + 64;
-    if r.code == 0 { done } else { done + 128 }
-}
-
-// Byte 2 of a close: on cylinder and ready, and WRPT for a protected drive.
-fn drive_status(d: Drive) -> u8
-    ensures { λ b. ⌜ b ≡ cond (d .protected) 0x13 0x03 ⌝ }
-{
-    if d.protected { 0x13 } else { 0x03 }
+    memory[at] = posted.byte0;
+    memory[at + 1] = posted.code;
+    memory[at + 2] = posted.drive;
+    memory[at + 3] = posted.internal;
 }
 
 // The sectors of the next n steps move between memory and image; a command that is no transfer moves none.
@@ -63,13 +63,13 @@ fn move_sectors(memory: &mut [u8], image: &mut [u8], r: Record, n: u32)
     let step = r.taken as usize;
     let on_disk = SECTOR_BYTES * (r.sector as usize + step);
     let in_memory = r.address as usize + SECTOR_BYTES * step;
-    let size = SECTOR_BYTES * n as usize;
+    let sectors = n as usize;
     if command::reads(r) {
-        copy_part(image, on_disk, memory, in_memory, size);
+        copy_sectors(image, on_disk, memory, in_memory, sectors);
         return;
     }
     if command::writes(r) {
-        copy_part(memory, in_memory, image, on_disk, size);
+        copy_sectors(memory, in_memory, image, on_disk, sectors);
         return;
     }
 }

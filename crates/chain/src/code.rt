@@ -10,8 +10,8 @@ ghost use Rattle.meaning.specs.First.{firstOf};
 ghost use Rattle.meaning.specs.Sectors.{sectorBytes, sectorCount};
 ghost use Rattle.meaning.specs.Code.{copiedAt, codeOf, transferRows, chained, odd, gathers, commandIn, read, write, firstSector};
 
-// The fields of the IOPB that the walk keeps.
-pub fn copied(memory: &[u8], at: u32) -> Copied
+// The fields of an IOPB that the walk keeps.
+fn fields_of(memory: &[u8], at: u32) -> Copied
     ensures { λ r. ⌜ r ≡ copiedAt (now (memory .entry)) at ⌝ }
 {
     Copied {
@@ -25,6 +25,19 @@ pub fn copied(memory: &[u8], at: u32) -> Copied
         address: iopb::data_address(memory, at),
         next: iopb::next_address(memory, at),
     }
+}
+
+// What the walk copies from the IOPB at an address. Where its thirty bytes are all in memory they are lent alone: the compiler then sees
+// that they lie side by side, and reads the bytes of a number at once.
+pub fn copied(memory: &[u8], at: u32) -> Copied
+    ensures { λ r. ⌜ r ≡ copiedAt (now (memory .entry)) at ⌝ }
+{
+    let from = at as usize;
+    let to = from + iopb::IOPB_BYTES;
+    if memory.len() < to {
+        return fields_of(memory, at);
+    }
+    fields_of(&memory[from..to], 0)
 }
 
 // CHEN set and the next address odd.
@@ -68,10 +81,7 @@ fn past_drive(c: Copied, d: Drive) -> bool
 fn forbidden(c: Copied, d: Drive) -> bool
     ensures { λ r. ⌜ r ≡ (eqb (commandIn (c .byte0)) write && d .protected) ⌝ }
 {
-    if c.byte0 % 16 != 1 {
-        return false;
-    }
-    d.protected
+    (c.byte0 % 16 == 1) & d.protected
 }
 
 // The data address + 512 x count is past the end of memory.

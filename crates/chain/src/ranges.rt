@@ -4,7 +4,7 @@ ghost use Prim.Native.Nat.{max, min};
 ghost use Rattle.meaning.specs.Ranges as ranges;
 
 // The later of two places.
-fn later(a: u64, b: u64) -> u64
+pub(crate) fn later(a: u64, b: u64) -> u64
     ensures { λ r. ⌜ r ≡ max a b ⌝ }
 {
     if a < b { b } else { a }

@@ -9,10 +9,13 @@ use meaning::Walked;
 use meaning::WalkedTable;
 ghost use mathlib.Core.Path.{_≡_};
 ghost use mathlib.Core.List.{[]};
+ghost use Prim.Native.Nat.{_+_, max};
 ghost use Rattle.meaning.specs.Each.{someOf};
+ghost use Rattle.meaning.specs.Fields.{iopbBytes};
 ghost use Rattle.meaning.specs.State.{stateOf};
 ghost use Rattle.meaning.specs.Walk.{Chain, recordOf, goesOn, shares, follow, WalkGives};
 ghost use Rattle.chain.specs.Kept.{kept};
+ghost use Rattle.chain.specs.Past.{AllEnd};
 
 // The most commands that a chain may have.
 pub const MOST_COMMANDS: usize = 32;
@@ -63,6 +66,24 @@ fn shares_any(addresses: &[u32], b: u32) -> bool
     false
 }
 
+// The same where the IOPBs at these addresses all end at or before `past`: they are searched only if the one at b begins before it.
+fn meets_earlier(addresses: &[u32], past: u64, b: u32) -> bool
+    requires { ⌜ AllEnd past (now addresses) ⌝ }
+    ensures { λ r. ⌜ r ≡ someOf (λ a. shares a b) (now (addresses .entry)) ⌝ }
+{
+    if past <= b as u64 {
+        return false;
+    }
+    shares_any(addresses, b)
+}
+
+// Where the furthest IOPB ends: at `past`, or where the one at `at` does.
+fn furthest(past: u64, at: u32) -> u64
+    ensures { λ r. ⌜ r ≡ max past (at + iopbBytes) ⌝ }
+{
+    ranges::later(past, at as u64 + iopb::IOPB_BYTES as u64)
+}
+
 // From the first IOPB on: each is tested, 5, 3, 4 in turn, and copied, until one ends the chain.
 fn follow_chain(memory: &[u8], d: Drive, start: u32, table: [Record; 32]) -> WalkedTable
     ensures { λ r. ⌜ r ≡ kept (follow 32 (now (memory .entry)) d [] start) table ⌝ }
@@ -71,11 +92,12 @@ fn follow_chain(memory: &[u8], d: Drive, start: u32, table: [Record; 32]) -> Wal
     let mut addresses = [0u32; 32];
     let mut n: usize = 0;
     let mut at = start;
+    let mut past: u64 = 0;
     while n < MOST_COMMANDS {
         if !iopb::all_in(memory, at) {
             return refused(3, table);
         }
-        if shares_any(&addresses[..n], at) {
+        if meets_earlier(&addresses[..n], past, at) {
             return refused(4, table);
         }
         let c = code::copied(memory, at);
@@ -92,6 +114,7 @@ fn follow_chain(memory: &[u8], d: Drive, start: u32, table: [Record; 32]) -> Wal
                 table: filled,
             };
         }
+        past = furthest(past, at);
         at = c.next;
     }
     refused(5, table)

@@ -1,30 +1,19 @@
 // How records go between a table that is lent as a run of records and one by value: a call copies the records out once, and lays back
 // only what it changed. The functions over the lent run are proved by hand.
-use board::command;
 use board::pick::PickedRecord;
 use board::run::RanTaken;
+use board::table;
 use chain::walk::MOST_COMMANDS;
 use meaning::Ran;
 use meaning::Record;
 ghost use mathlib.Core.Path.{_≡_};
 ghost use mathlib.Core.Bool.{cond};
-ghost use Prim.Native.Nat.{_≤_, _<_, min};
+ghost use Prim.Native.Nat.{_≤_, _<_};
 ghost use lib.ListN.{length};
 ghost use lib.Dec.{eqb};
 ghost use Rattle.meaning.specs.State.{mostCommands};
 ghost use Rattle.meaning.specs.Bench.{noRecords};
 ghost use Rattle.firmware.specs.Laid.{over, copiedOut, withRecord, withSteps};
-
-// How many records of a table of this length go into one by value.
-pub(crate) fn fit(length: usize) -> usize
-    ensures { λ n. ⌜ n ≡ min length mostCommands ⌝ }
-{
-    if length < MOST_COMMANDS {
-        length
-    } else {
-        MOST_COMMANDS
-    }
-}
 
 // A table of no records.
 pub(crate) fn blank() -> [Record; 32]
@@ -49,18 +38,30 @@ pub(crate) fn changed(number: u8) -> usize
     if number == 0 { MOST_COMMANDS } else { 0 }
 }
 
-// The first records of the lent table, 32 at most, before records of zeros.
-pub(crate) fn load(table: &[Record]) -> [Record; 32]
-    ensures { λ t. ⌜ t ≡ copiedOut (now (table .entry)) ⌝ }
+// The first n records of the lent table, before records of zeros.
+fn load_first(table: &[Record], n: usize) -> [Record; 32]
+    requires { ⌜ (n ≤ length (now table)) × (n ≤ mostCommands) ⌝ }
+    ensures { λ t. ⌜ t ≡ over n (now (table .entry)) noRecords ⌝ }
 {
     let mut t = blank();
-    let n = fit(table.len());
     let mut k = 0;
     while k < n {
         t[k] = table[k];
         k += 1;
     }
     t
+}
+
+// The first records of the lent table, 32 at most, before records of zeros. One that is long enough is copied by a number that the
+// compiler knows, so that it need not fill the array first.
+pub(crate) fn load(table: &[Record]) -> [Record; 32]
+    ensures { λ t. ⌜ t ≡ copiedOut (now (table .entry)) ⌝ }
+{
+    let length = table.len();
+    if length < MOST_COMMANDS {
+        return load_first(table, length);
+    }
+    load_first(table, MOST_COMMANDS)
 }
 
 // The first n of these records, laid over those of the lent table.
@@ -96,7 +97,7 @@ pub(crate) fn put_steps(table: &mut [Record], r: RanTaken) -> Ran
     let n = changed(ran.number);
     let mut k = 0;
     while k < n {
-        table[k] = command::with_taken(table[k], taken[k]);
+        table[k] = table::with_taken(table[k], taken[k]);
         k += 1;
     }
     ran

@@ -2,7 +2,7 @@
 //! with its own. Whatever is set is set on both; after each call both are compared whole.
 
 use crate::boards::Board;
-use crate::declared::{Ran, Walked, Record};
+use crate::declared::{Ran, Record, Walked};
 use crate::differ::call::{Call, Reply};
 use crate::translate::{drive_of, record_of, second_fields_of};
 

@@ -160,13 +160,14 @@ pub fn page(rows: &[Row], counted: &[Counted]) -> String {
          - Times are for one unit of the work: a run, a pick, a walk; 1,000 ns are 1 us, a millionth of a second. They \
          are the fastest of many batches in a round, and the median of {ROUNDS} rounds; the sides take turns on the same \
          memory and image, which are new in each round. A ratio is the median of the rounds' own ratios. In every row with \
-         a goal the middle half of them lies within {:.1} %. That is for one build: where the linker lays the same code \
-         has moved the walk in ordinary Rust between 265 and 340 ns on a Neoverse-V1.\n\
+         a goal the middle half of them lies within {:.1} %.\n\
          - The firmware is target/native/libfirmware.a, called from Rust. On Arm it is the toolchain's own LLVM module, \
          compiled for Arm (tools/archive).\n\
          - The chain has 32 transfers, reads and writes in turn, of 1, 8 or 128 sectors each. Memory has 65,536 bytes, \
          which 128 sectors fill, so from 8 sectors on commands share their data area. A run tests sizes and table, moves \
-         every sector and closes every command; the copy only moves the sectors. Places in turn: all picks of a place \
+         every sector and closes every command; the copy only moves the sectors. At 128 sectors the data of every command \
+         lies over all IOPBs, so the next command reads status bytes that were posted just before: ordinary Rust without its \
+         close takes as long there as the copy, and with it some 4 % longer. Places in turn: all picks of a place \
          before those of the next, since commands of 128 sectors all wait for each other.\n\
          - \"Ordinary Rust\" is host/src/ordinary.rs: the same replies with no proofs, written for speed as far as it \
          stays easy to read; it says what faster form was left out. The second program is second/, which is plain and \

@@ -3,7 +3,7 @@
 use mathlib.Core.Path.{_≡_, refl, sym, ap, _∙_, subst}
 use Prim.Native.Nat.{ℕ, _+_, _≤_, _<_, _-_, min}
 use native.Mathlib.Omega.{arith}
-use mathlib.Core.Bool.{Bool, false}
+use mathlib.Core.Bool.{Bool, true, false}
 use mathlib.Core.List.{List}
 use lib.ListN.{length, getD, take, set}
 use borrow.Author.Needs.{needs}
@@ -12,6 +12,7 @@ use Rattle.meaning.specs.Store.{lent}
 use Rattle.meaning.specs.State.{stateOf, mostCommands}
 use Rattle.meaning.specs.Command.{remaining, noRecord}
 use Rattle.meaning.specs.Run.{runNumber, byPicks}
+use Rattle.command.specs.Footprints.{noFootprint, footprintOf, footprintsMeet}
 use Rattle.board.specs.Changes.{tableWith, takenOf, handed}
 use Rattle.board.proofs.Opening.{Opened, opened-begin, opened-more, all-taken, all-left, number-is, whole-handed, run-goes}
 use Rattle.board.proofs.Runs.{refused-takes, accepted-takes}
@@ -19,104 +20,121 @@ use lib.Dec.{eqb}
 use Rattle.meaning.specs.declared.Ran.{Ran}
 use Rattle.meaning.specs.Each.{someOf}
 use Rattle.meaning.specs.Command.{finished}
-use Rattle.meaning.specs.Touch.{conflict}
 use Rattle.meaning.specs.Pick.{waits, placeNumber}
 use Rattle.board.specs.Changes.{withTaken, RunTakes}
 use Rattle.board.proofs.Moving.{steps-small}
-use Rattle.board.proofs.Searching.{none-more, some-here, blocking, finished-free, by-conflict, Searched, searched-to}
+use Rattle.board.proofs.Searching.{none-more, some-here, blocking, Searched, searched-to}
 use Rattle.board.proofs.Picking.{no-place, is-finished, has-to-wait, may-go}
-use Rattle.board.proofs.Taken.{length-with, conflict-with}
+use Rattle.board.proofs.Taken.{length-with}
+use Rattle.board.proofs.Footprints.{Footprinted, footprinted-none, footprinted-more, done-free, by-footprints}
 use Rattle.board.proofs.ByPicks.{PicksLeft, picks-begin, in-use-few, at-place, searched-on, pick-passed-over, some-left, pick-ready, all-picked, finished-by-count}
 use Rattle.board.proofs.Again.{picks-in-a-row}
 use Rattle.board.proofs.run.picks_taken.Statement.{statement}
 use Rattle.board.proofs.run.picks_taken.Tie as tie
 
 abbrev Inv-loop : tie.InvT-loop
-Inv-loop memory image d many commands picks table taken₀ seen₀ k₀ taken seen k =
-    Opened d commands (stateOf memory image table) taken seen k
+Inv-loop memory image d many commands picks table taken₀ footprints₀ seen₀ k₀ taken footprints seen k =
+    Opened d commands (stateOf memory image table) taken seen k × Footprinted table footprints k
 
 abbrev μ-loop : tie.MeasureT-loop
-μ-loop memory image d many commands picks table taken₀ seen₀ k₀ taken seen k =
+μ-loop memory image d many commands picks table taken₀ footprints₀ seen₀ k₀ taken footprints seen k =
     32 - k
 
 abbrev Inv-loop2 : tie.InvT-loop2
-Inv-loop2 memory image d many commands picks table taken seen k number searched₀ steps passed₀ next at place r earlier₀ searched passed earlier =
+Inv-loop2 memory image d many commands picks table taken footprints seen k number searched₀ steps passed₀ next at place r wanted earlier₀ searched passed earlier =
     (earlier ≤ place)
     × (searched ≡ searched₀)
     × (passed ≡ passed₀)
     × (someOf (blocking r) (take earlier (tableWith taken table)) ≡ false)
 
 abbrev μ-loop2 : tie.MeasureT-loop2
-μ-loop2 memory image d many commands picks table taken seen k number searched₀ steps passed₀ next at place r earlier₀ searched passed earlier =
+μ-loop2 memory image d many commands picks table taken footprints seen k number searched₀ steps passed₀ next at place r wanted earlier₀ searched passed earlier =
     place - earlier
 
 abbrev Inv-picks : tie.InvT-picks
-Inv-picks memory₀ image₀ d many commands picks table taken₀ seen k number searched₀ steps₀ passed₀ next₀ memory image taken searched steps passed next =
+Inv-picks memory₀ image₀ d many commands picks table taken₀ footprints seen k number searched₀ steps₀ passed₀ next₀ memory image taken searched steps passed next =
     PicksLeft d commands picks memory₀ image₀ table memory image taken searched steps passed next
 
 abbrev μ-picks : tie.MeasureT-picks
-μ-picks memory₀ image₀ d many commands picks table taken₀ seen k number searched₀ steps₀ passed₀ next₀ memory image taken searched steps passed next =
+μ-picks memory₀ image₀ d many commands picks table taken₀ footprints seen k number searched₀ steps₀ passed₀ next₀ memory image taken searched steps passed next =
     length picks - next
 
 -- past the first loop a run that is not refused has been handed all of its table, and goes
-whole : (c : tie.Else1 Inv-loop μ-loop Inv-loop2 μ-loop2 Inv-picks μ-picks) → let a = (c .before .before .before .before .before .before .before .before .before .args) in let s = stateOf (a .memory .now) (a .image .now) (a .t4) in handed (a .length) s ≡ s
-whole c = let a = c .before .before .before .before .before .before .before .before .before .args in
+whole : (c : tie.Else1 Inv-loop μ-loop Inv-loop2 μ-loop2 Inv-picks μ-picks) → let a = (c .before .before .before .before .before .before .before .before .before .before .args) in let s = stateOf (a .memory .now) (a .image .now) (a .t4) in handed (a .length) s ≡ s
+whole c = let a = c .before .before .before .before .before .before .before .before .before .before .args in
     let l = c .before .before .before .before .before .loop in
-    whole-handed (a .d) (a .commands) (a .memory .now) (a .image .now) (a .t4) (l .taken) (l .seen) (l .k) (l .inv) (c .before .before .before .before .loop-test .left) (a .length) (c .before .first-number .result) (c .before .first-number .ensures) (c .if1 .left)
+    whole-handed (a .d) (a .commands) (a .memory .now) (a .image .now) (a .t4) (l .taken) (l .seen) (l .k) (l .inv .0) (c .before .before .before .before .loop-test .left) (a .length) (c .before .first-number .result) (c .before .first-number .ensures) (c .if1 .left)
 
-goes : (c : tie.Else1 Inv-loop μ-loop Inv-loop2 μ-loop2 Inv-picks μ-picks) → let a = (c .before .before .before .before .before .before .before .before .before .args) in runNumber (a .d) (a .commands) (stateOf (a .memory .now) (a .image .now) (a .t4)) ≡ 0
-goes c = let a = c .before .before .before .before .before .before .before .before .before .args in
+goes : (c : tie.Else1 Inv-loop μ-loop Inv-loop2 μ-loop2 Inv-picks μ-picks) → let a = (c .before .before .before .before .before .before .before .before .before .before .args) in runNumber (a .d) (a .commands) (stateOf (a .memory .now) (a .image .now) (a .t4)) ≡ 0
+goes c = let a = c .before .before .before .before .before .before .before .before .before .before .args in
     let l = c .before .before .before .before .before .loop in
-    run-goes (a .d) (a .commands) (a .memory .now) (a .image .now) (a .t4) (l .taken) (l .seen) (l .k) (l .inv) (c .before .before .before .before .loop-test .left) (a .length) (c .before .first-number .result) (c .before .first-number .ensures) (c .if1 .left)
+    run-goes (a .d) (a .commands) (a .memory .now) (a .image .now) (a .t4) (l .taken) (l .seen) (l .k) (l .inv .0) (c .before .before .before .before .loop-test .left) (a .length) (c .before .first-number .result) (c .before .first-number .ensures) (c .if1 .left)
 
 -- the place that is picked is one of the 32
-in-table : (c : tie.Else2 Inv-loop μ-loop Inv-loop2 μ-loop2 Inv-picks μ-picks) → getD (c .before .before .before .before .before .before .before .before .before .before .before .before .before .args .picks .now) (c .before .before .before .picks .next) 0 < mostCommands
-in-table c = let a = c .before .before .before .before .before .before .before .before .before .before .before .before .before .args in
+in-table : (c : tie.Else2 Inv-loop μ-loop Inv-loop2 μ-loop2 Inv-picks μ-picks) → getD (c .before .before .before .before .before .before .before .before .before .before .before .before .before .before .args .picks .now) (c .before .before .before .picks .next) 0 < mostCommands
+in-table c = let a = c .before .before .before .before .before .before .before .before .before .before .before .before .before .before .args in
     let l = c .before .before .before .picks in
     let few = in-use-few (a .d) (a .commands) (a .picks .now) (a .memory .now) (a .image .now) (a .t4) (l .memory) (l .image) (l .taken) (l .searched) (l .steps) (l .passed) (l .next) (l .inv) in
     omega (arith, few, (c .if2 .left))
 
--- the record at the place that is picked, and the one that the search has come to
-here : (c : tie.After-with-taken Inv-loop μ-loop Inv-loop2 μ-loop2 Inv-picks μ-picks) → let a = (c .before .before .before .before .before .before .before .before .before .before .before .before .before .before .before .args) in let l = (c .before .before .before .before .before .picks) in (c .with-taken .result) ≡ getD (tableWith (l .taken) (a .t4)) (getD (a .picks .now) (l .next) 0) noRecord
-here c = let a = c .before .before .before .before .before .before .before .before .before .before .before .before .before .before .before .args in
+-- past the first loop every record has its footprint
+foot-at : (c : tie.Else1 Inv-loop μ-loop Inv-loop2 μ-loop2 Inv-picks μ-picks) (j : ℕ) → j < mostCommands → getD (c .before .before .before .before .before .loop .footprints) j noFootprint ≡ footprintOf (getD (c .before .before .before .before .before .before .before .before .before .before .args .t4) j noRecord)
+foot-at c j h = let e = c .before .before .before .before .loop-test .left in
+    c .before .before .before .before .before .loop .inv .1 .each j (omega arith)
+
+-- the record at the place that is picked
+here : (c : tie.After-with-taken Inv-loop μ-loop Inv-loop2 μ-loop2 Inv-picks μ-picks) → let a = (c .before .before .before .before .before .before .before .before .before .before .before .before .before .before .before .before .args) in let l = (c .before .before .before .before .before .picks) in (c .with-taken .result) ≡ getD (tableWith (l .taken) (a .t4)) (getD (a .picks .now) (l .next) 0) noRecord
+here c = let a = c .before .before .before .before .before .before .before .before .before .before .before .before .before .before .before .before .args in
     let l = c .before .before .before .before .before .picks in
     (c .with-taken .ensures) ∙ at-place (a .d) (a .commands) (a .picks .now) (a .memory .now) (a .image .now) (a .t4) (l .memory) (l .image) (l .taken) (l .searched) (l .steps) (l .passed) (l .next) (l .inv) (getD (a .picks .now) (l .next) 0) (in-table (c .before .before))
 
-there : (c : tie.After-with-taken2 Inv-loop μ-loop Inv-loop2 μ-loop2 Inv-picks μ-picks) → let a = (c .before .before .before .before .before .before .before .before .before .before .before .before .before .before .before .before .before .before .before .before .before .args) in let l = (c .before .before .before .before .before .before .before .before .before .before .before .picks) in (c .with-taken2 .result) ≡ getD (tableWith (l .taken) (a .t4)) (c .before .before .before .loop2 .earlier) noRecord
-there c = let a = c .before .before .before .before .before .before .before .before .before .before .before .before .before .before .before .before .before .before .before .before .before .args in
-    let l = c .before .before .before .before .before .before .before .before .before .before .before .picks in
-    (c .with-taken2 .ensures) ∙ at-place (a .d) (a .commands) (a .picks .now) (a .memory .now) (a .image .now) (a .t4) (l .memory) (l .image) (l .taken) (l .searched) (l .steps) (l .passed) (l .next) (l .inv) (c .before .before .before .loop2 .earlier) (let h = in-table (c .before .before .before .before .before .before .before .before) in let b = (c .before .before .loop2-test .taken) in omega arith)
-
-untaken : (c : tie.After-with-taken2 Inv-loop μ-loop Inv-loop2 μ-loop2 Inv-picks μ-picks) → conflict (c .with-taken2 .result) (c .before .before .before .before .before .before .with-taken .result) ≡ conflict (getD (c .before .before .before .before .before .before .before .before .before .before .before .before .before .before .before .before .before .before .before .before .before .args .t4) (c .before .before .before .loop2 .earlier) noRecord) (c .before .before .before .before .before .before .with-taken .result)
-untaken c = ap (λ (x : Record). conflict x (c .before .before .before .before .before .before .with-taken .result)) (c .with-taken2 .ensures) ∙ conflict-with (getD (c .before .before .before .before .before .before .before .before .before .before .before .picks .taken) (c .before .before .before .loop2 .earlier) 0) (getD (c .before .before .before .before .before .before .before .before .before .before .before .before .before .before .before .before .before .before .before .before .before .args .t4) (c .before .before .before .loop2 .earlier) noRecord) (c .before .before .before .before .before .before .with-taken .result)
-
-inside : (c : tie.In-loop2 Inv-loop μ-loop Inv-loop2 μ-loop2 Inv-picks μ-picks) → let a = (c .before .before .before .before .before .before .before .before .before .before .before .before .before .before .before .before .before .before .before .args) in let l = (c .before .before .before .before .before .before .before .before .before .picks) in (c .before .loop2 .earlier) < length (tableWith (l .taken) (a .t4))
-inside c = let a = c .before .before .before .before .before .before .before .before .before .before .before .before .before .before .before .before .before .before .before .args in
-    let l = c .before .before .before .before .before .before .before .before .before .picks in
-    let h = in-table (c .before .before .before .before .before .before) in
+inside : (c : tie.In-loop2 Inv-loop μ-loop Inv-loop2 μ-loop2 Inv-picks μ-picks) → let a = (c .before .before .before .before .before .before .before .before .before .before .before .before .before .before .before .before .before .before .before .before .before .args) in let l = (c .before .before .before .before .before .before .before .before .before .before .picks) in (c .before .loop2 .earlier) < length (tableWith (l .taken) (a .t4))
+inside c = let a = c .before .before .before .before .before .before .before .before .before .before .before .before .before .before .before .before .before .before .before .before .before .args in
+    let l = c .before .before .before .before .before .before .before .before .before .before .picks in
+    let h = in-table (c .before .before .before .before .before .before .before) in
     let b = c .loop2-test .taken in
     omega (arith, length-with (l .taken) (a .t4), l .inv .full)
 
--- what the search has passed does not block; past the search nothing does, and the number of the pick is 0
-clear : (c : tie.At-loop2 Inv-loop μ-loop Inv-loop2 μ-loop2 Inv-picks μ-picks) → let a = (c .before .before .before .before .before .before .before .before .before .before .before .before .before .before .before .before .before .before .args) in let l = (c .before .before .before .before .before .before .before .before .picks) in let p = getD (a .picks .now) (l .next) 0 in let t = tableWith (l .taken) (a .t4) in
-    someOf (blocking (getD t p noRecord)) (take (c .loop2 .earlier) t) ≡ false
-clear c = let a = c .before .before .before .before .before .before .before .before .before .before .before .before .before .before .before .before .before .before .args in
-    let l = c .before .before .before .before .before .before .before .before .picks in
-    ap (λ (x : Record). someOf (blocking x) (take (c .loop2 .earlier) (tableWith (l .taken) (a .t4)))) (sym (here (c .before .before .before))) ∙ (c .loop2 .inv .3)
+-- the record that the search has come to, and what of it is asked by footprints
+there : (c : tie.In-loop2 Inv-loop μ-loop Inv-loop2 μ-loop2 Inv-picks μ-picks) → let a = c .before .before .before .before .before .before .before .before .before .before .before .before .before .before .before .before .before .before .before .before .before .args in let l = c .before .before .before .before .before .before .before .before .before .before .picks in let k = c .before .loop2 .earlier in withTaken (getD (l .taken) k 0) (getD (a .t4) k noRecord) ≡ getD (tableWith (l .taken) (a .t4)) k noRecord
+there c = let a = c .before .before .before .before .before .before .before .before .before .before .before .before .before .before .before .before .before .before .before .before .before .args in
+    let l = c .before .before .before .before .before .before .before .before .before .before .picks in
+    at-place (a .d) (a .commands) (a .picks .now) (a .memory .now) (a .image .now) (a .t4) (l .memory) (l .image) (l .taken) (l .searched) (l .steps) (l .passed) (l .next) (l .inv) (c .before .loop2 .earlier) (let h = in-table (c .before .before .before .before .before .before .before) in let b = (c .loop2-test .taken) in omega arith)
 
-free : (c : tie.After-loop2 Inv-loop μ-loop Inv-loop2 μ-loop2 Inv-picks μ-picks) → let a = (c .before .before .before .before .before .before .before .before .before .before .before .before .before .before .before .before .before .before .before .args) in let l = (c .before .before .before .before .before .before .before .before .before .picks) in placeNumber (tableWith (l .taken) (a .t4)) (a .commands) (getD (a .picks .now) (l .next) 0) ≡ 0
-unfolding waits
-free c = let a = c .before .before .before .before .before .before .before .before .before .before .before .before .before .before .before .before .before .before .before .args in
+asked : (c : tie.In-loop2 Inv-loop μ-loop Inv-loop2 μ-loop2 Inv-picks μ-picks) (b : Bool) → let a = c .before .before .before .before .before .before .before .before .before .before .before .before .before .before .before .before .before .before .before .before .before .args in let l = c .before .before .before .before .before .before .before .before .before .before .picks in let k = c .before .loop2 .earlier in let p = getD (a .picks .now) (l .next) 0 in
+    blocking (withTaken (getD (l .taken) p 0) (getD (a .t4) p noRecord)) (withTaken (getD (l .taken) k 0) (getD (a .t4) k noRecord)) ≡ b → blocking (c .before .before .before .before .before .with-taken .result) (getD (tableWith (l .taken) (a .t4)) k noRecord) ≡ b
+asked c b q = (λ j. blocking (c .before .before .before .before .before .with-taken .ensures j) (sym (there c) j)) ∙ q
+
+-- its footprint, and that of the place that is picked
+its-foot : (c : tie.In-loop2 Inv-loop μ-loop Inv-loop2 μ-loop2 Inv-picks μ-picks) → let k = c .before .loop2 .earlier in getD (c .before .before .before .before .before .before .before .before .before .before .before .before .before .before .before .before .loop .footprints) k noFootprint ≡ footprintOf (getD (c .before .before .before .before .before .before .before .before .before .before .before .before .before .before .before .before .before .before .before .before .before .args .t4) k noRecord)
+its-foot c = foot-at (c .before .before .before .before .before .before .before .before .before .before .before) (c .before .loop2 .earlier) (let h = in-table (c .before .before .before .before .before .before .before) in let b = (c .loop2-test .taken) in omega arith)
+
+wanted-foot : (c : tie.In-loop2 Inv-loop μ-loop Inv-loop2 μ-loop2 Inv-picks μ-picks) → let p = getD (c .before .before .before .before .before .before .before .before .before .before .before .before .before .before .before .before .before .before .before .before .before .args .picks .now) (c .before .before .before .before .before .before .before .before .before .before .picks .next) 0 in getD (c .before .before .before .before .before .before .before .before .before .before .before .before .before .before .before .before .loop .footprints) p noFootprint ≡ footprintOf (getD (c .before .before .before .before .before .before .before .before .before .before .before .before .before .before .before .before .before .before .before .before .before .args .t4) p noRecord)
+wanted-foot c = foot-at (c .before .before .before .before .before .before .before .before .before .before .before) (getD (c .before .before .before .before .before .before .before .before .before .before .before .before .before .before .before .before .before .before .before .before .before .args .picks .now) (c .before .before .before .before .before .before .before .before .before .before .picks .next) 0) (in-table (c .before .before .before .before .before .before .before))
+
+-- what the search has passed does not block; past the search nothing does, and the number of the pick is 0
+clear : (c : tie.At-loop2 Inv-loop μ-loop Inv-loop2 μ-loop2 Inv-picks μ-picks) → let a = (c .before .before .before .before .before .before .before .before .before .before .before .before .before .before .before .before .before .before .before .before .args) in let l = (c .before .before .before .before .before .before .before .before .before .picks) in let p = getD (a .picks .now) (l .next) 0 in let t = tableWith (l .taken) (a .t4) in
+    someOf (blocking (getD t p noRecord)) (take (c .loop2 .earlier) t) ≡ false
+clear c = let a = c .before .before .before .before .before .before .before .before .before .before .before .before .before .before .before .before .before .before .before .before .args in
     let l = c .before .before .before .before .before .before .before .before .before .picks in
+    ap (λ (x : Record). someOf (blocking x) (take (c .loop2 .earlier) (tableWith (l .taken) (a .t4)))) (sym (here (c .before .before .before .before))) ∙ (c .loop2 .inv .3)
+
+free : (c : tie.After-loop2 Inv-loop μ-loop Inv-loop2 μ-loop2 Inv-picks μ-picks) → let a = (c .before .before .before .before .before .before .before .before .before .before .before .before .before .before .before .before .before .before .before .before .before .args) in let l = (c .before .before .before .before .before .before .before .before .before .before .picks) in placeNumber (tableWith (l .taken) (a .t4)) (a .commands) (getD (a .picks .now) (l .next) 0) ≡ 0
+unfolding waits
+free c = let a = c .before .before .before .before .before .before .before .before .before .before .before .before .before .before .before .before .before .before .before .before .before .args in
+    let l = c .before .before .before .before .before .before .before .before .before .before .picks in
     let p = getD (a .picks .now) (l .next) 0 in
     let t = tableWith (l .taken) (a .t4) in
     let all : p ≡ (c .before .loop2 .earlier) = let h = (c .before .loop2 .inv .0) in let e = (c .loop2-test .left) in omega arith in
-    may-go t (a .commands) p (c .before .before .before .before .before .before .if2 .left) (ap finished (sym (here (c .before .before .before .before))) ∙ sym (c .before .before .before .finished .ensures) ∙ (c .before .before .if3 .left))
+    may-go t (a .commands) p (c .before .before .before .before .before .before .before .if2 .left) (ap finished (sym (here (c .before .before .before .before .before))) ∙ sym (c .before .before .before .before .finished .ensures) ∙ (c .before .before .before .if3 .left))
     (ap (λ (k : ℕ). someOf (blocking (getD t p noRecord)) (take k t)) all ∙ clear (c .before))
 
+no-footprint-requires : tie.Need-no-footprint-requires Inv-loop μ-loop Inv-loop2 μ-loop2 Inv-picks μ-picks
+no-footprint-requires c κs = search needs
+
 loop-holds : tie.Need-loop-holds Inv-loop μ-loop Inv-loop2 μ-loop2 Inv-picks μ-picks
-loop-holds c = let a = c .before .before .before .args in
-    opened-begin (a .d) (a .commands) (stateOf (a .memory .now) (a .image .now) (a .t4)) _ refl (search needs)
+loop-holds c = let a = c .before .before .before .before .args in
+    (opened-begin (a .d) (a .commands) (stateOf (a .memory .now) (a .image .now) (a .t4)) _ refl (search needs), footprinted-none (a .t4) _ refl)
 
 mul-r : tie.Need-mul-r Inv-loop μ-loop Inv-loop2 μ-loop2 Inv-picks μ-picks
 mul-r c = omega arith
@@ -125,13 +143,22 @@ array-copy-out-r : tie.Need-array-copy-out-r Inv-loop μ-loop Inv-loop2 μ-loop2
 array-copy-out-r c = omega arith
 
 mul-taken : tie.Need-mul-taken Inv-loop μ-loop Inv-loop2 μ-loop2 Inv-picks μ-picks
-mul-taken c = omega (arith, (c .before .before .loop .inv .long))
+mul-taken c = omega (arith, (c .before .before .loop .inv .0 .long))
 
 array-write-taken : tie.Need-array-write-taken Inv-loop μ-loop Inv-loop2 μ-loop2 Inv-picks μ-picks
-array-write-taken c = omega (arith, (c .before .before .loop .inv .long))
+array-write-taken c = omega (arith, (c .before .before .loop .inv .0 .long))
+
+footprint-of-requires : tie.Need-footprint-of-requires Inv-loop μ-loop Inv-loop2 μ-loop2 Inv-picks μ-picks
+footprint-of-requires c κs = search needs
+
+mul-footprints : tie.Need-mul-footprints Inv-loop μ-loop Inv-loop2 μ-loop2 Inv-picks μ-picks
+mul-footprints c = omega (arith, (c .before .before .before .loop .inv .1 .long))
+
+array-set-from-footprints : tie.Need-array-set-from-footprints Inv-loop μ-loop Inv-loop2 μ-loop2 Inv-picks μ-picks
+array-set-from-footprints c = omega (arith, (c .before .before .before .loop .inv .1 .long))
 
 with-record-requires : tie.Need-with-record-requires Inv-loop μ-loop Inv-loop2 μ-loop2 Inv-picks μ-picks
-with-record-requires c κs = omega (arith, (c .before .before .before .loop .inv .small))
+with-record-requires c κs = omega (arith, (c .before .before .before .before .loop .inv .0 .small))
 
 add-k : tie.Need-add-k Inv-loop μ-loop Inv-loop2 μ-loop2 Inv-picks μ-picks
 add-k c = omega arith
@@ -140,8 +167,10 @@ loop-less : tie.Need-loop-less Inv-loop μ-loop Inv-loop2 μ-loop2 Inv-picks μ-
 loop-less c = omega arith
 
 loop-again : tie.Need-loop-again Inv-loop μ-loop Inv-loop2 μ-loop2 Inv-picks μ-picks
-loop-again c = let a = c .before .before .before .before .before .before .before .before .args in
-    opened-more (a .d) (a .commands) (a .memory .now) (a .image .now) (a .t4) (c .before .before .before .before .loop .taken) (c .before .before .before .before .loop .seen) (c .before .before .before .before .loop .k) (c .before .before .before .before .loop .inv) (c .with-record .result) (c .before .before .before .loop-test .taken) (c .with-record .ensures .0) (c .with-record .ensures .1)
+loop-again c = let a = c .before .before .before .before .before .before .before .before .before .before .args in
+    let l = c .before .before .before .before .before .loop in
+    let h = c .before .before .before .before .loop-test .taken in
+    (opened-more (a .d) (a .commands) (a .memory .now) (a .image .now) (a .t4) (l .taken) (l .seen) (l .k) (l .inv .0) (c .with-record .result) h (c .with-record .ensures .0) (c .with-record .ensures .1), footprinted-more (a .t4) (l .footprints) (l .k) (c .before .before .footprint-of .result) (l .inv .1) h (c .before .before .footprint-of .ensures))
 
 first-number-requires : tie.Need-first-number-requires Inv-loop μ-loop Inv-loop2 μ-loop2 Inv-picks μ-picks
 first-number-requires c κs = search needs
@@ -156,19 +185,19 @@ same-length-2 : tie.Need-same-length-2 Inv-loop μ-loop Inv-loop2 μ-loop2 Inv-p
 same-length-2 c = search needs
 
 returns : tie.Need-returns Inv-loop μ-loop Inv-loop2 μ-loop2 Inv-picks μ-picks
-returns c = let a = c .before .before .before .before .before .before .before .before .before .before .args in
+returns c = let a = c .before .before .before .before .before .before .before .before .before .before .before .args in
     let s = stateOf (a .memory .now) (a .image .now) (a .t4) in
     let l = c .before .before .before .before .before .before .loop in
-    let number = number-is (a .d) (a .commands) (a .memory .now) (a .image .now) (a .t4) (l .taken) (l .seen) (l .k) (l .inv) (c .before .before .before .before .before .loop-test .left) (a .length) (c .before .before .first-number .result) (c .before .before .first-number .ensures) in
+    let number = number-is (a .d) (a .commands) (a .memory .now) (a .image .now) (a .t4) (l .taken) (l .seen) (l .k) (l .inv .0) (c .before .before .before .before .before .loop-test .left) (a .length) (c .before .before .first-number .result) (c .before .before .first-number .ensures) in
     subst (λ (x : Ran). RunTakes (a .d) (a .commands) (byPicks (a .d) (a .commands) (a .picks .now)) (a .length) s (record { ran = x; taken = l .taken }) (s .store)) (sym (c .refused .ensures))
     (refused-takes (a .d) (a .commands) (byPicks (a .d) (a .commands) (a .picks .now)) (a .length) s (c .before .before .first-number .result) (l .taken) number (c .before .if1 .taken)
-    (all-taken (a .d) (a .commands) (a .memory .now) (a .image .now) (a .t4) (l .taken) (l .seen) (l .k) (l .inv) (c .before .before .before .before .before .loop-test .left)))
+    (all-taken (a .d) (a .commands) (a .memory .now) (a .image .now) (a .t4) (l .taken) (l .seen) (l .k) (l .inv .0) (c .before .before .before .before .before .loop-test .left)))
 
 picks-holds : tie.Need-picks-holds Inv-loop μ-loop Inv-loop2 μ-loop2 Inv-picks μ-picks
-picks-holds c = let a = c .before .before .before .before .before .before .before .before .before .args in
+picks-holds c = let a = c .before .before .before .before .before .before .before .before .before .before .args in
     let l = c .before .before .before .before .before .loop in
-    picks-begin (a .d) (a .commands) (a .picks .now) (a .memory .now) (a .image .now) (a .t4) (l .taken) (l .inv .full) (l .inv .long)
-    (all-taken (a .d) (a .commands) (a .memory .now) (a .image .now) (a .t4) (l .taken) (l .seen) (l .k) (l .inv) (c .before .before .before .before .loop-test .left)) (goes c)
+    picks-begin (a .d) (a .commands) (a .picks .now) (a .memory .now) (a .image .now) (a .t4) (l .taken) (l .inv .0 .full) (l .inv .0 .long)
+    (all-taken (a .d) (a .commands) (a .memory .now) (a .image .now) (a .t4) (l .taken) (l .seen) (l .k) (l .inv .0) (c .before .before .before .before .loop-test .left)) (goes c)
 
 shared-slice-read-place : tie.Need-shared-slice-read-place Inv-loop μ-loop Inv-loop2 μ-loop2 Inv-picks μ-picks
 shared-slice-read-place c = omega arith
@@ -186,7 +215,7 @@ picks-less : tie.Need-picks-less Inv-loop μ-loop Inv-loop2 μ-loop2 Inv-picks �
 picks-less c = omega arith
 
 picks-again : tie.Need-picks-again Inv-loop μ-loop Inv-loop2 μ-loop2 Inv-picks μ-picks
-picks-again c = let a = c .before .before .before .before .before .before .before .before .before .before .before .before .before .args in
+picks-again c = let a = c .before .before .before .before .before .before .before .before .before .before .before .before .before .before .args in
     let l = c .before .before .before .picks in
     let p = getD (a .picks .now) (l .next) 0 in
     pick-passed-over (a .d) (a .commands) (a .picks .now) (a .memory .now) (a .image .now) (a .t4) (l .memory) (l .image) (l .taken) (l .searched) (l .steps) (l .passed) (l .next) (l .inv) (c .before .before .picks-test .taken) (λ q. omega (arith, no-place (tableWith (l .taken) (a .t4)) (a .commands) p (c .if2 .taken), q))
@@ -210,49 +239,49 @@ finished-requires : tie.Need-finished-requires Inv-loop μ-loop Inv-loop2 μ-loo
 finished-requires c κs = search needs
 
 add-passed-2 : tie.Need-add-passed-2 Inv-loop μ-loop Inv-loop2 μ-loop2 Inv-picks μ-picks
-add-passed-2 c = omega (arith, (c .before .before .before .before .before .before .before .picks .inv .counted), (c .before .before .before .before .before .before .before .picks .inv .most))
+add-passed-2 c = omega (arith, (c .before .before .before .before .before .before .before .picks .inv .counted), (c .before .before .before .before .before .before .before .picks .inv .most), (c .before .before .before .before .before .before .picks-test .taken), (c .before .before .before .before .before .before .before .before .before .before .before .before .before .before .before .before .before .before .good))
 
 picks-less-2 : tie.Need-picks-less-2 Inv-loop μ-loop Inv-loop2 μ-loop2 Inv-picks μ-picks
 picks-less-2 c = omega arith
 
 picks-again-2 : tie.Need-picks-again-2 Inv-loop μ-loop Inv-loop2 μ-loop2 Inv-picks μ-picks
-picks-again-2 c = let a = c .before .before .before .before .before .before .before .before .before .before .before .before .before .before .before .before .before .args in
+picks-again-2 c = let a = c .before .before .before .before .before .before .before .before .before .before .before .before .before .before .before .before .before .before .args in
     let l = c .before .before .before .before .before .before .before .picks in
     let p = getD (a .picks .now) (l .next) 0 in
     let t = tableWith (l .taken) (a .t4) in
     let over = ap finished (sym (here (c .before .before))) ∙ sym (c .before .finished .ensures) ∙ (c .if3 .taken) in
     pick-passed-over (a .d) (a .commands) (a .picks .now) (a .memory .now) (a .image .now) (a .t4) (l .memory) (l .image) (l .taken) (l .searched) (l .steps) (l .passed) (l .next) (l .inv) (c .before .before .before .before .before .before .picks-test .taken) (λ q. omega (arith, is-finished t (a .commands) p (c .before .before .before .before .if2 .left) over, q))
 
+mul-wanted : tie.Need-mul-wanted Inv-loop μ-loop Inv-loop2 μ-loop2 Inv-picks μ-picks
+mul-wanted c = omega (arith, in-table (c .before .before .before .before))
+
+array-copy-out-wanted : tie.Need-array-copy-out-wanted Inv-loop μ-loop Inv-loop2 μ-loop2 Inv-picks μ-picks
+array-copy-out-wanted c = omega (arith, in-table (c .before .before .before .before), (c .before .before .before .before .before .before .before .before .before .before .before .before .before .loop .inv .1 .long))
+
 mul-earlier : tie.Need-mul-earlier Inv-loop μ-loop Inv-loop2 μ-loop2 Inv-picks μ-picks
-mul-earlier c = omega (arith, in-table (c .before .before .before .before))
+mul-earlier c = omega (arith, in-table (c .before .before .before .before .before))
 
 array-read-earlier : tie.Need-array-read-earlier Inv-loop μ-loop Inv-loop2 μ-loop2 Inv-picks μ-picks
-array-read-earlier c = omega (arith, in-table (c .before .before .before .before), (c .before .before .before .before .before .before .before .picks .inv .search .long))
+array-read-earlier c = omega (arith, in-table (c .before .before .before .before .before), (c .before .before .before .before .before .before .before .before .picks .inv .search .long))
 
 loop2-holds : tie.Need-loop2-holds Inv-loop μ-loop Inv-loop2 μ-loop2 Inv-picks μ-picks
-loop2-holds c = let a = c .before .before .before .before .before .before .before .before .before .before .before .before .before .before .before .before .before .args in
-    let l = c .before .before .before .before .before .before .before .picks in
+loop2-holds c = let a = c .before .before .before .before .before .before .before .before .before .before .before .before .before .before .before .before .before .before .before .args in
+    let l = c .before .before .before .before .before .before .before .before .picks in
     let p = getD (a .picks .now) (l .next) 0 in
     let t = tableWith (l .taken) (a .t4) in
-    (l .inv .search .within p, refl, refl, ap (λ (x : Record). someOf (blocking x) (take (getD (l .searched) p 0) t)) (here (c .before .before)) ∙ l .inv .search .free p)
+    (l .inv .search .within p, refl, refl, ap (λ (x : Record). someOf (blocking x) (take (getD (l .searched) p 0) t)) (here (c .before .before .before)) ∙ l .inv .search .free p)
 
-mul-with-taken-3 : tie.Need-mul-with-taken-3 Inv-loop μ-loop Inv-loop2 μ-loop2 Inv-picks μ-picks
-mul-with-taken-3 c = omega (arith, in-table (c .before .before .before .before .before .before))
+mul-e : tie.Need-mul-e Inv-loop μ-loop Inv-loop2 μ-loop2 Inv-picks μ-picks
+mul-e c = omega (arith, in-table (c .before .before .before .before .before .before .before))
 
-array-copy-out-with-taken-2 : tie.Need-array-copy-out-with-taken-2 Inv-loop μ-loop Inv-loop2 μ-loop2 Inv-picks μ-picks
-array-copy-out-with-taken-2 c = omega (arith, in-table (c .before .before .before .before .before .before))
+array-copy-out-e : tie.Need-array-copy-out-e Inv-loop μ-loop Inv-loop2 μ-loop2 Inv-picks μ-picks
+array-copy-out-e c = omega (arith, in-table (c .before .before .before .before .before .before .before), (c .before .before .before .before .before .before .before .before .before .before .before .before .before .before .before .before .loop .inv .1 .long))
 
-mul-with-taken-4 : tie.Need-mul-with-taken-4 Inv-loop μ-loop Inv-loop2 μ-loop2 Inv-picks μ-picks
-mul-with-taken-4 c = omega (arith, in-table (c .before .before .before .before .before .before .before))
+mul-if4 : tie.Need-mul-if4 Inv-loop μ-loop Inv-loop2 μ-loop2 Inv-picks μ-picks
+mul-if4 c = omega (arith, in-table (c .before .before .before .before .before .before .before .before))
 
-array-read-with-taken-2 : tie.Need-array-read-with-taken-2 Inv-loop μ-loop Inv-loop2 μ-loop2 Inv-picks μ-picks
-array-read-with-taken-2 c = omega (arith, in-table (c .before .before .before .before .before .before .before), (c .before .before .before .before .before .before .before .before .before .before .picks .inv .long))
-
-with-taken-requires-2 : tie.Need-with-taken-requires-2 Inv-loop μ-loop Inv-loop2 μ-loop2 Inv-picks μ-picks
-with-taken-requires-2 c κs = search needs
-
-finished-requires-2 : tie.Need-finished-requires-2 Inv-loop μ-loop Inv-loop2 μ-loop2 Inv-picks μ-picks
-finished-requires-2 c κs = search needs
+array-read-if4 : tie.Need-array-read-if4 Inv-loop μ-loop Inv-loop2 μ-loop2 Inv-picks μ-picks
+array-read-if4 c = omega (arith, in-table (c .before .before .before .before .before .before .before .before), (c .before .before .before .before .before .before .before .before .before .before .before .picks .inv .long))
 
 add-earlier : tie.Need-add-earlier Inv-loop μ-loop Inv-loop2 μ-loop2 Inv-picks μ-picks
 add-earlier c = omega (arith, in-table (c .before .before .before .before .before .before .before .before .before .before))
@@ -261,129 +290,130 @@ loop2-less : tie.Need-loop2-less Inv-loop μ-loop Inv-loop2 μ-loop2 Inv-picks �
 loop2-less c = omega arith
 
 loop2-again : tie.Need-loop2-again Inv-loop μ-loop Inv-loop2 μ-loop2 Inv-picks μ-picks
-loop2-again c = let a = c .before .before .before .before .before .before .before .before .before .before .before .before .before .before .before .before .before .before .before .before .before .before .before .args in
+loop2-again c = let a = c .before .before .before .before .before .before .before .before .before .before .before .before .before .before .before .before .before .before .before .before .before .before .before .before .args in
     let l = c .before .before .before .before .before .before .before .before .before .before .before .before .before .picks in
-    let e = c .before .before .before .before .before .loop2 in
-    let t = tableWith (l .taken) (a .t4) in
-    (omega arith, e .inv .1, e .inv .2, none-more noRecord (blocking (c .before .before .before .before .before .before .before .before .with-taken .result)) t (e .earlier) (inside (c .before .before .before .before)) (e .inv .3) (ap (blocking (c .before .before .before .before .before .before .before .before .with-taken .result)) (sym (there (c .before .before))) ∙ finished-free (c .before .before .before .before .before .before .before .before .with-taken .result) (c .before .before .with-taken2 .result) (sym (c .before .finished2 .ensures) ∙ (c .if4 .taken))))
+    let e = c .before .before .before .before .loop2 in
+    let p = getD (a .picks .now) (l .next) 0 in
+    let t = tableWith (l .taken) (a .t4) in (
+      omega arith,
+      e .inv .1,
+      e .inv .2,
+      none-more noRecord (blocking (c .before .before .before .before .before .before .before .before .with-taken .result)) t (e .earlier) (inside (c .before .before .before)) (e .inv .3)
+          (asked (c .before .before .before) false (done-free (getD (c .before .before .before .before .before .before .before .before .before .before .before .before .before .before .before .before .before .before .before .loop .footprints) (e .earlier) noFootprint) (getD (c .before .before .before .before .before .before .before .before .before .before .before .before .before .before .before .before .before .before .before .loop .footprints) p noFootprint) (getD (a .t4) (e .earlier) noRecord) (getD (a .t4) p noRecord) (getD (l .taken) (e .earlier) 0) (getD (l .taken) p 0) (its-foot (c .before .before .before)) (wanted-foot (c .before .before .before)) (c .if4 .taken))),
+    )
 
-mul-conflict : tie.Need-mul-conflict Inv-loop μ-loop Inv-loop2 μ-loop2 Inv-picks μ-picks
-mul-conflict c = omega (arith, in-table (c .before .before .before .before .before .before .before .before .before .before))
-
-array-copy-out-conflict : tie.Need-array-copy-out-conflict Inv-loop μ-loop Inv-loop2 μ-loop2 Inv-picks μ-picks
-array-copy-out-conflict c = omega (arith, in-table (c .before .before .before .before .before .before .before .before .before .before))
-
-conflict-requires : tie.Need-conflict-requires Inv-loop μ-loop Inv-loop2 μ-loop2 Inv-picks μ-picks
-conflict-requires c κs = search needs
+footprints-meet-requires : tie.Need-footprints-meet-requires Inv-loop μ-loop Inv-loop2 μ-loop2 Inv-picks μ-picks
+footprints-meet-requires c κs = search needs
 
 mul-searched : tie.Need-mul-searched Inv-loop μ-loop Inv-loop2 μ-loop2 Inv-picks μ-picks
-mul-searched c = omega (arith, in-table (c .before .before .before .before .before .before .before .before .before .before .before .before .before))
+mul-searched c = omega (arith, in-table (c .before .before .before .before .before .before .before .before .before .before .before .before))
 
 array-write-searched : tie.Need-array-write-searched Inv-loop μ-loop Inv-loop2 μ-loop2 Inv-picks μ-picks
-array-write-searched c = let e = ap length (c .before .before .before .before .before .before .before .before .loop2 .inv .1) in omega (arith, in-table (c .before .before .before .before .before .before .before .before .before .before .before .before .before), (c .before .before .before .before .before .before .before .before .before .before .before .before .before .before .before .before .picks .inv .search .long))
+array-write-searched c = let e = ap length (c .before .before .before .before .before .before .loop2 .inv .1) in omega (arith, in-table (c .before .before .before .before .before .before .before .before .before .before .before .before), (c .before .before .before .before .before .before .before .before .before .before .before .before .before .before .before .picks .inv .search .long))
 
 add-passed-3 : tie.Need-add-passed-3 Inv-loop μ-loop Inv-loop2 μ-loop2 Inv-picks μ-picks
-add-passed-3 c = omega (arith, (c .before .before .before .before .before .before .before .before .loop2 .inv .2), (c .before .before .before .before .before .before .before .before .before .before .before .before .before .before .before .before .picks .inv .counted), (c .before .before .before .before .before .before .before .before .before .before .before .before .before .before .before .before .picks .inv .most), (c .before .before .before .before .before .before .before .before .before .before .before .before .before .before .before .before .before .before .before .before .before .before .before .before .before .before .good))
+add-passed-3 c = omega (arith, (c .before .before .before .before .before .before .loop2 .inv .2), (c .before .before .before .before .before .before .before .before .before .before .before .before .before .before .before .picks .inv .counted), (c .before .before .before .before .before .before .before .before .before .before .before .before .before .before .before .picks .inv .most), (c .before .before .before .before .before .before .before .before .before .before .before .before .before .before .before .before .before .before .before .before .before .before .before .before .before .before .good))
 
 picks-less-3 : tie.Need-picks-less-3 Inv-loop μ-loop Inv-loop2 μ-loop2 Inv-picks μ-picks
-picks-less-3 c = omega (arith, (c .before .before .before .before .before .before .before .before .before .before .before .before .before .before .before .picks-test .taken))
+picks-less-3 c = omega (arith, (c .before .before .before .before .before .before .before .before .before .before .before .before .before .before .picks-test .taken))
 
 picks-again-3 : tie.Need-picks-again-3 Inv-loop μ-loop Inv-loop2 μ-loop2 Inv-picks μ-picks
 unfolding waits
 picks-again-3 c = let a = c .before .before .before .before .before .before .before .before .before .before .before .before .before .before .before .before .before .before .before .before .before .before .before .before .before .before .args in
-    let l = c .before .before .before .before .before .before .before .before .before .before .before .before .before .before .before .before .picks in
+    let l = c .before .before .before .before .before .before .before .before .before .before .before .before .before .before .before .picks in
     let p = getD (a .picks .now) (l .next) 0 in
     let t = tableWith (l .taken) (a .t4) in
-    let e = c .before .before .before .before .before .before .before .before .loop2 in
-    let blocked = sym (λ j. blocking (here (c .before .before .before .before .before .before .before .before .before .before .before) j) (there (c .before .before .before .before .before) j)) ∙ by-conflict (c .before .before .before .before .before .before .before .before .before .before .before .with-taken .result) (c .before .before .before .before .before .with-taken2 .result) _ (sym (c .before .before .before .before .finished2 .ensures) ∙ (c .before .before .before .if4 .left)) (untaken (c .before .before .before .before .before) ∙ sym (c .before .conflict .ensures) ∙ (c .if5 .taken)) in
-    let open-yet = ap finished (sym (here (c .before .before .before .before .before .before .before .before .before .before .before))) ∙ sym (c .before .before .before .before .before .before .before .before .before .before .finished .ensures) ∙ (c .before .before .before .before .before .before .before .before .before .if3 .left) in
-    let six = has-to-wait t (a .commands) p (c .before .before .before .before .before .before .before .before .before .before .before .before .before .if2 .left) open-yet (some-here noRecord (blocking (getD t p noRecord)) t (e .earlier) p (c .before .before .before .before .before .before .before .loop2-test .taken) (inside (c .before .before .before .before .before .before .before)) blocked) in
-    let to = searched-to t (l .searched) p (e .earlier) (l .inv .search) (in-table (c .before .before .before .before .before .before .before .before .before .before .before .before .before)) (e .inv .0) (clear (c .before .before .before .before .before .before .before .before)) in
+    let e = c .before .before .before .before .before .before .loop2 in
+    let blocked = ap (λ (x : Record). blocking x (getD t (e .earlier) noRecord)) (sym (here (c .before .before .before .before .before .before .before .before .before .before))) ∙ asked (c .before .before .before .before .before) true (by-footprints (getD (c .before .before .before .before .before .before .before .before .before .before .before .before .before .before .before .before .before .before .before .before .before .loop .footprints) (e .earlier) noFootprint) (getD (c .before .before .before .before .before .before .before .before .before .before .before .before .before .before .before .before .before .before .before .before .before .loop .footprints) p noFootprint) (getD (a .t4) (e .earlier) noRecord) (getD (a .t4) p noRecord) (getD (l .taken) (e .earlier) 0) (getD (l .taken) p 0) (its-foot (c .before .before .before .before .before)) (wanted-foot (c .before .before .before .before .before)) true (c .before .before .if4 .left) (sym (c .before .footprints-meet .ensures) ∙ (c .if5 .taken))) in
+    let open-yet = ap finished (sym (here (c .before .before .before .before .before .before .before .before .before .before))) ∙ sym (c .before .before .before .before .before .before .before .before .before .finished .ensures) ∙ (c .before .before .before .before .before .before .before .before .if3 .left) in
+    let six = has-to-wait t (a .commands) p (c .before .before .before .before .before .before .before .before .before .before .before .before .if2 .left) open-yet (some-here noRecord (blocking (getD t p noRecord)) t (e .earlier) p (c .before .before .before .before .before .loop2-test .taken) (inside (c .before .before .before .before .before)) blocked) in
+    let to = searched-to t (l .searched) p (e .earlier) (l .inv .search) (in-table (c .before .before .before .before .before .before .before .before .before .before .before .before)) (e .inv .0) (clear (c .before .before .before .before .before .before)) in
     subst (λ (x : List ℕ). PicksLeft (a .d) (a .commands) (a .picks .now) (a .memory .now) (a .image .now) (a .t4) (l .memory) (l .image) (l .taken) (set x p (e .earlier)) (l .steps) (e .passed + 1) (l .next + 1)) (sym (e .inv .1))
     (subst (λ (x : ℕ). PicksLeft (a .d) (a .commands) (a .picks .now) (a .memory .now) (a .image .now) (a .t4) (l .memory) (l .image) (l .taken) (set (l .searched) p (e .earlier)) (l .steps) (x + 1) (l .next + 1)) (sym (e .inv .2))
-    (pick-passed-over (a .d) (a .commands) (a .picks .now) (a .memory .now) (a .image .now) (a .t4) (l .memory) (l .image) (l .taken) (set (l .searched) p (e .earlier)) (l .steps) (l .passed) (l .next) (searched-on (a .d) (a .commands) (a .picks .now) (a .memory .now) (a .image .now) (a .t4) (l .memory) (l .image) (l .taken) (l .searched) (l .steps) (l .passed) (l .next) (l .inv) (set (l .searched) p (e .earlier)) to) (c .before .before .before .before .before .before .before .before .before .before .before .before .before .before .before .picks-test .taken) (λ q. omega (arith, six, q))))
+    (pick-passed-over (a .d) (a .commands) (a .picks .now) (a .memory .now) (a .image .now) (a .t4) (l .memory) (l .image) (l .taken) (set (l .searched) p (e .earlier)) (l .steps) (l .passed) (l .next) (searched-on (a .d) (a .commands) (a .picks .now) (a .memory .now) (a .image .now) (a .t4) (l .memory) (l .image) (l .taken) (l .searched) (l .steps) (l .passed) (l .next) (l .inv) (set (l .searched) p (e .earlier)) to) (c .before .before .before .before .before .before .before .before .before .before .before .before .before .before .picks-test .taken) (λ q. omega (arith, six, q))))
 
 add-earlier-2 : tie.Need-add-earlier-2 Inv-loop μ-loop Inv-loop2 μ-loop2 Inv-picks μ-picks
-add-earlier-2 c = omega (arith, in-table (c .before .before .before .before .before .before .before .before .before .before .before .before .before))
+add-earlier-2 c = omega (arith, in-table (c .before .before .before .before .before .before .before .before .before .before .before .before))
 
 loop2-less-2 : tie.Need-loop2-less-2 Inv-loop μ-loop Inv-loop2 μ-loop2 Inv-picks μ-picks
 loop2-less-2 c = omega arith
 
 loop2-again-2 : tie.Need-loop2-again-2 Inv-loop μ-loop Inv-loop2 μ-loop2 Inv-picks μ-picks
 loop2-again-2 c = let a = c .before .before .before .before .before .before .before .before .before .before .before .before .before .before .before .before .before .before .before .before .before .before .before .before .before .before .args in
-    let l = c .before .before .before .before .before .before .before .before .before .before .before .before .before .before .before .before .picks in
-    let e = c .before .before .before .before .before .before .before .before .loop2 in
+    let l = c .before .before .before .before .before .before .before .before .before .before .before .before .before .before .before .picks in
+    let e = c .before .before .before .before .before .before .loop2 in
+    let p = getD (a .picks .now) (l .next) 0 in
     let t = tableWith (l .taken) (a .t4) in (
       omega arith,
       e .inv .1,
       e .inv .2,
-      none-more noRecord (blocking (c .before .before .before .before .before .before .before .before .before .before .before .with-taken .result)) t (e .earlier) (inside (c .before .before .before .before .before .before .before)) (e .inv .3)
-          (ap (blocking (c .before .before .before .before .before .before .before .before .before .before .before .with-taken .result)) (sym (there (c .before .before .before .before .before))) ∙ by-conflict (c .before .before .before .before .before .before .before .before .before .before .before .with-taken .result) (c .before .before .before .before .before .with-taken2 .result) _ (sym (c .before .before .before .before .finished2 .ensures) ∙ (c .before .before .before .if4 .left)) (untaken (c .before .before .before .before .before) ∙ sym (c .before .conflict .ensures) ∙ (c .if5 .left))),
+      none-more noRecord (blocking (c .before .before .before .before .before .before .before .before .before .before .with-taken .result)) t (e .earlier) (inside (c .before .before .before .before .before)) (e .inv .3)
+          (asked (c .before .before .before .before .before) false (by-footprints (getD (c .before .before .before .before .before .before .before .before .before .before .before .before .before .before .before .before .before .before .before .before .before .loop .footprints) (e .earlier) noFootprint) (getD (c .before .before .before .before .before .before .before .before .before .before .before .before .before .before .before .before .before .before .before .before .before .loop .footprints) p noFootprint) (getD (a .t4) (e .earlier) noRecord) (getD (a .t4) p noRecord) (getD (l .taken) (e .earlier) 0) (getD (l .taken) p 0) (its-foot (c .before .before .before .before .before)) (wanted-foot (c .before .before .before .before .before)) false (c .before .before .if4 .left) (sym (c .before .footprints-meet .ensures) ∙ (c .if5 .left)))),
     )
 
 mul-searched-2 : tie.Need-mul-searched-2 Inv-loop μ-loop Inv-loop2 μ-loop2 Inv-picks μ-picks
-mul-searched-2 c = omega (arith, in-table (c .before .before .before .before .before .before))
+mul-searched-2 c = omega (arith, in-table (c .before .before .before .before .before .before .before))
 
 array-write-searched-2 : tie.Need-array-write-searched-2 Inv-loop μ-loop Inv-loop2 μ-loop2 Inv-picks μ-picks
-array-write-searched-2 c = let e = ap length (c .before .loop2 .inv .1) in omega (arith, in-table (c .before .before .before .before .before .before), (c .before .before .before .before .before .before .before .before .before .picks .inv .search .long))
+array-write-searched-2 c = let e = ap length (c .before .loop2 .inv .1) in omega (arith, in-table (c .before .before .before .before .before .before .before), (c .before .before .before .before .before .before .before .before .before .before .picks .inv .search .long))
 
 remaining-requires : tie.Need-remaining-requires Inv-loop μ-loop Inv-loop2 μ-loop2 Inv-picks μ-picks
 remaining-requires c κs = search needs
 
 picks-alike-requires : tie.Need-picks-alike-requires Inv-loop μ-loop Inv-loop2 μ-loop2 Inv-picks μ-picks
-picks-alike-requires c κs = let a = c .before .before .before .before .before .before .before .before .before .before .before .before .before .before .before .before .before .before .before .before .args in
-    let l = c .before .before .before .before .before .before .before .before .before .before .picks in
-    ((c .before .before .before .before .before .before .before .before .before .picks-test .taken), rw (c .remaining .ensures) (some-left (a .d) (a .commands) (a .picks .now) (a .memory .now) (a .image .now) (a .t4) (l .memory) (l .image) (l .taken) (l .searched) (l .steps) (l .passed) (l .next) (l .inv) (c .before .before .before .before .before .with-taken .result) (here (c .before .before .before .before .before)) (in-table (c .before .before .before .before .before .before .before)) (free (c .before))))
+picks-alike-requires c κs = let a = c .before .before .before .before .before .before .before .before .before .before .before .before .before .before .before .before .before .before .before .before .before .before .args in
+    let l = c .before .before .before .before .before .before .before .before .before .before .before .picks in
+    ((c .before .before .before .before .before .before .before .before .before .before .picks-test .taken), rw (c .remaining .ensures) (some-left (a .d) (a .commands) (a .picks .now) (a .memory .now) (a .image .now) (a .t4) (l .memory) (l .image) (l .taken) (l .searched) (l .steps) (l .passed) (l .next) (l .inv) (c .before .before .before .before .before .before .with-taken .result) (here (c .before .before .before .before .before .before)) (in-table (c .before .before .before .before .before .before .before .before)) (free (c .before))))
 
 take-steps-requires : tie.Need-take-steps-requires Inv-loop μ-loop Inv-loop2 μ-loop2 Inv-picks μ-picks
-take-steps-requires c κs = let a = c .before .before .before .before .before .before .before .before .before .before .before .before .before .before .before .before .before .before .before .before .before .before .before .args in
-    let l = c .before .before .before .before .before .before .before .before .before .before .before .before .before .picks in
+take-steps-requires c κs = let a = c .before .before .before .before .before .before .before .before .before .before .before .before .before .before .before .before .before .before .before .before .before .before .before .before .before .args in
+    let l = c .before .before .before .before .before .before .before .before .before .before .before .before .before .before .picks in
     let few = rw (c .before .before .before .remaining .ensures) at (c .before .before .picks-alike .ensures .few) in
-    (few, pick-ready (a .d) (a .commands) (a .picks .now) (a .memory .now) (a .image .now) (a .t4) (l .memory) (l .image) (l .taken) (l .searched) (l .steps) (l .passed) (l .next) (l .inv) (c .before .before .before .before .before .before .before .before .with-taken .result) (here (c .before .before .before .before .before .before .before .before)) (in-table (c .before .before .before .before .before .before .before .before .before .before)) (free (c .before .before .before .before)) (c .before .before .picks-alike .result) few)
+    (few, pick-ready (a .d) (a .commands) (a .picks .now) (a .memory .now) (a .image .now) (a .t4) (l .memory) (l .image) (l .taken) (l .searched) (l .steps) (l .passed) (l .next) (l .inv) (c .before .before .before .before .before .before .before .before .before .with-taken .result) (here (c .before .before .before .before .before .before .before .before .before)) (in-table (c .before .before .before .before .before .before .before .before .before .before .before)) (free (c .before .before .before .before)) (c .before .before .picks-alike .result) few)
 
 add-taken : tie.Need-add-taken Inv-loop μ-loop Inv-loop2 μ-loop2 Inv-picks μ-picks
 unfolding remaining
-add-taken c = let a = c .before .before .before .before .before .before .before .before .before .before .before .before .before .before .before .before .before .before .before .before .before .before .before .before .before .before .before .before .before .args in
-    let l = c .before .before .before .before .before .before .before .before .before .before .before .before .before .before .before .before .before .before .before .picks in
+add-taken c = let a = c .before .before .before .before .before .before .before .before .before .before .before .before .before .before .before .before .before .before .before .before .before .before .before .before .before .before .before .before .before .before .before .args in
+    let l = c .before .before .before .before .before .before .before .before .before .before .before .before .before .before .before .before .before .before .before .before .picks in
     let few = rw (c .before .before .before .before .before .before .before .before .before .remaining .ensures) at (c .before .before .before .before .before .before .before .before .picks-alike .ensures .few) in
-    omega (arith, few, steps-small (c .before .before .before .before .before .before .before .before .before .before .before .before .before .before .with-taken .result) (omega arith))
+    omega (arith, few, steps-small (c .before .before .before .before .before .before .before .before .before .before .before .before .before .before .before .with-taken .result) (omega arith))
 
 mul-taken-2 : tie.Need-mul-taken-2 Inv-loop μ-loop Inv-loop2 μ-loop2 Inv-picks μ-picks
-mul-taken-2 c = omega (arith, in-table (c .before .before .before .before .before .before .before .before .before .before .before .before .before .before .before .before))
+mul-taken-2 c = omega (arith, in-table (c .before .before .before .before .before .before .before .before .before .before .before .before .before .before .before .before .before))
 
 array-write-taken-2 : tie.Need-array-write-taken-2 Inv-loop μ-loop Inv-loop2 μ-loop2 Inv-picks μ-picks
-array-write-taken-2 c = omega (arith, in-table (c .before .before .before .before .before .before .before .before .before .before .before .before .before .before .before .before), (c .before .before .before .before .before .before .before .before .before .before .before .before .before .before .before .before .before .before .before .picks .inv .long))
+array-write-taken-2 c = omega (arith, in-table (c .before .before .before .before .before .before .before .before .before .before .before .before .before .before .before .before .before), (c .before .before .before .before .before .before .before .before .before .before .before .before .before .before .before .before .before .before .before .before .picks .inv .long))
 
 cast-steps : tie.Need-cast-steps Inv-loop μ-loop Inv-loop2 μ-loop2 Inv-picks μ-picks
 cast-steps c = search needs
 
 add-steps : tie.Need-add-steps Inv-loop μ-loop Inv-loop2 μ-loop2 Inv-picks μ-picks
-add-steps c = omega (arith, (c .before .before .before .before .before .before .before .before .picks-alike .ensures .there), (c .before .before .before .before .before .before .before .before .before .before .before .before .before .before .before .before .before .before .before .picks .inv .counted), (c .before .before .before .before .before .before .before .before .before .before .before .before .before .before .before .before .before .before .before .picks .inv .most), (c .before .before .before .before .before .before .before .before .before .before .before .before .before .before .before .before .before .before .before .before .before .before .before .before .before .before .before .before .before .good))
+add-steps c = omega (arith, (c .before .before .before .before .before .before .before .before .picks-alike .ensures .there), (c .before .before .before .before .before .before .before .before .before .before .before .before .before .before .before .before .before .before .before .before .picks .inv .counted), (c .before .before .before .before .before .before .before .before .before .before .before .before .before .before .before .before .before .before .before .before .picks .inv .most), (c .before .before .before .before .before .before .before .before .before .before .before .before .before .before .before .before .before .before .before .before .before .before .before .before .before .before .before .before .before .before .before .good))
 
 cast-next : tie.Need-cast-next Inv-loop μ-loop Inv-loop2 μ-loop2 Inv-picks μ-picks
 cast-next c = search needs
 
 add-next-2 : tie.Need-add-next-2 Inv-loop μ-loop Inv-loop2 μ-loop2 Inv-picks μ-picks
-add-next-2 c = omega (arith, (c .before .before .before .before .before .before .before .before .picks-alike .ensures .there), (c .before .before .before .before .before .before .before .before .before .before .before .before .before .before .before .before .before .before .before .before .before .before .before .before .before .before .before .before .before .good))
+add-next-2 c = omega (arith, (c .before .before .before .before .before .before .before .before .picks-alike .ensures .there), (c .before .before .before .before .before .before .before .before .before .before .before .before .before .before .before .before .before .before .before .before .before .before .before .before .before .before .before .before .before .before .before .good))
 
 picks-less-4 : tie.Need-picks-less-4 Inv-loop μ-loop Inv-loop2 μ-loop2 Inv-picks μ-picks
-picks-less-4 c = omega (arith, (c .before .before .before .before .before .before .before .before .before .before .before .before .before .before .before .before .before .before .picks-test .taken), (c .before .before .before .before .before .before .before .before .picks-alike .ensures .some), (c .before .before .before .before .before .before .before .before .picks-alike .ensures .there))
+picks-less-4 c = omega (arith, (c .before .before .before .before .before .before .before .before .before .before .before .before .before .before .before .before .before .before .before .picks-test .taken), (c .before .before .before .before .before .before .before .before .picks-alike .ensures .some), (c .before .before .before .before .before .before .before .before .picks-alike .ensures .there))
 
 picks-again-4 : tie.Need-picks-again-4 Inv-loop μ-loop Inv-loop2 μ-loop2 Inv-picks μ-picks
-picks-again-4 c = let a = c .before .before .before .before .before .before .before .before .before .before .before .before .before .before .before .before .before .before .before .before .before .before .before .before .before .before .before .before .before .args in
-    let l = c .before .before .before .before .before .before .before .before .before .before .before .before .before .before .before .before .before .before .before .picks in
+picks-again-4 c = let a = c .before .before .before .before .before .before .before .before .before .before .before .before .before .before .before .before .before .before .before .before .before .before .before .before .before .before .before .before .before .before .before .args in
+    let l = c .before .before .before .before .before .before .before .before .before .before .before .before .before .before .before .before .before .before .before .before .picks in
     let p = getD (a .picks .now) (l .next) 0 in
     let t = tableWith (l .taken) (a .t4) in
     let e = c .before .before .before .before .before .before .before .before .before .before .before .loop2 in
     let v = c .before .before .before .before .before .take-steps in
-    let r = c .before .before .before .before .before .before .before .before .before .before .before .before .before .before .with-taken .result in
+    let r = c .before .before .before .before .before .before .before .before .before .before .before .before .before .before .before .with-taken .result in
     let n = c .before .before .before .before .before .before .before .before .picks-alike in
     let few = rw (c .before .before .before .before .before .before .before .before .before .remaining .ensures) at (c .before .before .before .before .before .before .before .before .picks-alike .ensures .few) in
-    let to = searched-to t (l .searched) p (e .earlier) (l .inv .search) (in-table (c .before .before .before .before .before .before .before .before .before .before .before .before .before .before .before .before)) (e .inv .0) (clear (c .before .before .before .before .before .before .before .before .before .before .before)) in
+    let to = searched-to t (l .searched) p (e .earlier) (l .inv .search) (in-table (c .before .before .before .before .before .before .before .before .before .before .before .before .before .before .before .before .before)) (e .inv .0) (clear (c .before .before .before .before .before .before .before .before .before .before .before)) in
     subst (λ (x : List ℕ). PicksLeft (a .d) (a .commands) (a .picks .now) (a .memory .now) (a .image .now) (a .t4) (v .last .0) (v .last .1 .0) (set (l .taken) p (r .taken + n .result)) (set x p (e .earlier)) (l .steps + n .result) (e .passed) (l .next + n .result)) (sym (e .inv .1))
     (subst (λ (x : ℕ). PicksLeft (a .d) (a .commands) (a .picks .now) (a .memory .now) (a .image .now) (a .t4) (v .last .0) (v .last .1 .0) (set (l .taken) p (r .taken + n .result)) (set (l .searched) p (e .earlier)) (l .steps + n .result) x (l .next + n .result)) (sym (e .inv .2))
-    (picks-in-a-row (a .d) (a .commands) (a .picks .now) (a .memory .now) (a .image .now) (a .t4) (set (l .searched) p (e .earlier)) (l .passed) p (in-table (c .before .before .before .before .before .before .before .before .before .before .before .before .before .before .before .before)) (n .result) (l .memory) (l .image) (l .taken) (l .steps) (l .next) r (v .last .0) (v .last .1 .0)
-    (searched-on (a .d) (a .commands) (a .picks .now) (a .memory .now) (a .image .now) (a .t4) (l .memory) (l .image) (l .taken) (l .searched) (l .steps) (l .passed) (l .next) (l .inv) (set (l .searched) p (e .earlier)) to) (here (c .before .before .before .before .before .before .before .before .before .before .before .before .before .before)) (λ _. free (c .before .before .before .before .before .before .before .before .before .before)) few (n .ensures .there) (n .ensures .same) (v .ensures)))
+    (picks-in-a-row (a .d) (a .commands) (a .picks .now) (a .memory .now) (a .image .now) (a .t4) (set (l .searched) p (e .earlier)) (l .passed) p (in-table (c .before .before .before .before .before .before .before .before .before .before .before .before .before .before .before .before .before)) (n .result) (l .memory) (l .image) (l .taken) (l .steps) (l .next) r (v .last .0) (v .last .1 .0)
+    (searched-on (a .d) (a .commands) (a .picks .now) (a .memory .now) (a .image .now) (a .t4) (l .memory) (l .image) (l .taken) (l .searched) (l .steps) (l .passed) (l .next) (l .inv) (set (l .searched) p (e .earlier)) to) (here (c .before .before .before .before .before .before .before .before .before .before .before .before .before .before .before)) (λ _. free (c .before .before .before .before .before .before .before .before .before .before)) few (n .ensures .there) (n .ensures .same) (v .ensures)))
 
 same-length-3 : tie.Need-same-length-3 Inv-loop μ-loop Inv-loop2 μ-loop2 Inv-picks μ-picks
 same-length-3 c = (c .before .before .picks .inv .memory-length)
@@ -392,11 +422,11 @@ same-length-4 : tie.Need-same-length-4 Inv-loop μ-loop Inv-loop2 μ-loop2 Inv-p
 same-length-4 c = (c .before .before .picks .inv .image-length)
 
 returns-2 : tie.Need-returns-2 Inv-loop μ-loop Inv-loop2 μ-loop2 Inv-picks μ-picks
-returns-2 c = let a = c .before .before .before .before .before .before .before .before .before .before .before .before .args in
+returns-2 c = let a = c .before .before .before .before .before .before .before .before .before .before .before .before .before .args in
     let l = c .before .before .picks in
     let s = stateOf (a .memory .now) (a .image .now) (a .t4) in
     let f = c .before .before .before .before .before .before .before .before .loop in
-    let left = all-left (a .d) (a .commands) (a .memory .now) (a .image .now) (a .t4) (f .taken) (f .seen) (f .k) (f .inv) (c .before .before .before .before .before .before .before .loop-test .left) in
+    let left = all-left (a .d) (a .commands) (a .memory .now) (a .image .now) (a .t4) (f .taken) (f .seen) (f .k) (f .inv .0) (c .before .before .before .before .before .before .before .loop-test .left) in
     accepted-takes (a .d) (a .commands) (byPicks (a .d) (a .commands) (a .picks .now)) (a .length) s (l .steps) (l .passed) _ (l .taken) _ (whole (c .before .before .before)) (goes (c .before .before .before)) (l .inv .long ∙ sym (l .inv .full))
     (all-picked (a .d) (a .commands) (a .picks .now) (a .memory .now) (a .image .now) (a .t4) (l .memory) (l .image) (l .taken) (l .searched) (l .steps) (l .passed) (l .next) (l .inv) (c .before .picks-test .left)) (ap (eqb (l .steps)) left ∙ finished-by-count (a .d) (a .commands) (a .picks .now) (a .memory .now) (a .image .now) (a .t4) (l .memory) (l .image) (l .taken) (l .searched) (l .steps) (l .passed) (l .next) (l .inv))
 
@@ -410,11 +440,15 @@ picks-taken-spec =
     μ-loop2
     Inv-picks
     μ-picks
+    no-footprint-requires
     loop-holds
     mul-r
     array-copy-out-r
     mul-taken
     array-write-taken
+    footprint-of-requires
+    mul-footprints
+    array-set-from-footprints
     with-record-requires
     add-k
     loop-less
@@ -440,21 +474,19 @@ picks-taken-spec =
     add-passed-2
     picks-less-2
     picks-again-2
+    mul-wanted
+    array-copy-out-wanted
     mul-earlier
     array-read-earlier
     loop2-holds
-    mul-with-taken-3
-    array-copy-out-with-taken-2
-    mul-with-taken-4
-    array-read-with-taken-2
-    with-taken-requires-2
-    finished-requires-2
+    mul-e
+    array-copy-out-e
+    mul-if4
+    array-read-if4
     add-earlier
     loop2-less
     loop2-again
-    mul-conflict
-    array-copy-out-conflict
-    conflict-requires
+    footprints-meet-requires
     mul-searched
     array-write-searched
     add-passed-3

@@ -1,4 +1,4 @@
--- `board::step::move_sectors` meets its contract: the kind of the command decides which part is copied where.
+-- `board::step::move_sectors` meets its contract: the kind of the command decides which sectors are copied where.
 use mathlib.Core.Path.{sym, ap, _∙_}
 use Prim.Native.Nat.{ℕ}
 use mathlib.Core.List.{List}
@@ -30,14 +30,11 @@ mul-in-memory c = search needs
 add-in-memory : tie.Need-add-in-memory
 add-in-memory c = search needs
 
-mul-size : tie.Need-mul-size
-mul-size c = search needs
-
 reads-requires : tie.Need-reads-requires
 reads-requires c κs = search needs
 
-copy-part-requires : tie.Need-copy-part-requires
-copy-part-requires c κs = let a = c .before .before .before .before .before .before .before .before .before .args in
+copy-sectors-requires : tie.Need-copy-sectors-requires
+copy-sectors-requires c κs = let a = c .before .before .before .before .before .before .before .before .before .args in
     let s = lent (a .memory .now) (a .image .now) in
     let t = or-first _ _ (sym (c .before .before .before .reads .ensures) ∙ (c .before .before .if1 .taken)) in
     (room-on-disk (a .n) (a .r) s (c .before .before .before .before .before .before .before .before .before .pre .1) (c .before .before .before .before .before .before .before .before .before .pre .0) t, room-in-memory (a .n) (a .r) s (c .before .before .before .before .before .before .before .before .before .pre .1) (c .before .before .before .before .before .before .before .before .before .pre .0) t)
@@ -53,13 +50,13 @@ returns c = let a = c .before .before .before .before .before .before .before .b
     let s = lent (a .memory .now) (a .image .now) in
     let reading = sym (c .before .before .before .before .before .before .reads .ensures) ∙ (c .before .before .before .before .before .if1 .taken) in
     let room = room-on-disk (a .n) (a .r) s (c .before .before .before .before .before .before .before .before .before .before .before .before .pre .1) (c .before .before .before .before .before .before .before .before .before .before .before .before .pre .0) (or-first _ _ reading) in
-    ap (λ (x : List ℕ). lent x (a .image .now)) (c .before .before .copy-part .ensures) ∙ sym (read-moved (a .n) (a .r) (a .memory .now) (a .image .now) reading room)
+    ap (λ (x : List ℕ). lent x (a .image .now)) (c .before .before .copy-sectors .ensures) ∙ sym (read-moved (a .n) (a .r) (a .memory .now) (a .image .now) reading room)
 
 writes-requires : tie.Need-writes-requires
 writes-requires c κs = search needs
 
-copy-part-requires-2 : tie.Need-copy-part-requires-2
-copy-part-requires-2 c κs = let a = c .before .before .before .before .before .before .before .before .before .before .before .args in
+copy-sectors-requires-2 : tie.Need-copy-sectors-requires-2
+copy-sectors-requires-2 c κs = let a = c .before .before .before .before .before .before .before .before .before .before .before .args in
     let s = lent (a .memory .now) (a .image .now) in
     let t = or-second _ _ (sym (c .before .before .before .before .before .reads .ensures) ∙ (c .before .before .before .before .if1 .left)) ∙ (sym (c .before .before .before .writes .ensures) ∙ (c .before .before .if2 .taken)) in
     (room-in-memory (a .n) (a .r) s (c .before .before .before .before .before .before .before .before .before .before .before .pre .1) (c .before .before .before .before .before .before .before .before .before .before .before .pre .0) t, room-on-disk (a .n) (a .r) s (c .before .before .before .before .before .before .before .before .before .before .before .pre .1) (c .before .before .before .before .before .before .before .before .before .before .before .pre .0) t)
@@ -76,7 +73,7 @@ returns-2 c = let a = c .before .before .before .before .before .before .before 
     let reading = sym (c .before .before .before .before .before .before .before .before .reads .ensures) ∙ (c .before .before .before .before .before .before .before .if1 .left) in
     let writing = sym (c .before .before .before .before .before .before .writes .ensures) ∙ (c .before .before .before .before .before .if2 .taken) in
     let room = room-in-memory (a .n) (a .r) s (c .before .before .before .before .before .before .before .before .before .before .before .before .before .before .pre .1) (c .before .before .before .before .before .before .before .before .before .before .before .before .before .before .pre .0) (or-second _ _ reading ∙ writing) in
-    ap (λ (x : List ℕ). lent (a .memory .now) x) (c .before .before .copy-part2 .ensures) ∙ sym (write-moved (a .n) (a .r) (a .memory .now) (a .image .now) reading writing room)
+    ap (λ (x : List ℕ). lent (a .memory .now) x) (c .before .before .copy-sectors2 .ensures) ∙ sym (write-moved (a .n) (a .r) (a .memory .now) (a .image .now) reading writing room)
 
 returns-3 : tie.Need-returns-3
 returns-3 c = let a = c .before .before .before .before .before .before .before .before .before .args in
@@ -93,14 +90,13 @@ move-sectors-spec =
     cast-in-memory
     mul-in-memory
     add-in-memory
-    mul-size
     reads-requires
-    copy-part-requires
+    copy-sectors-requires
     same-length
     same-length-2
     returns
     writes-requires
-    copy-part-requires-2
+    copy-sectors-requires-2
     same-length-3
     same-length-4
     returns-2

@@ -1,6 +1,6 @@
 -- `firmware::laid::fill` meets its contract: a walk of its code, by hand, with its loop. Each turn reads one record of a local array,
 -- which stands apart, record by record, while the loop runs, and writes it at the same place of the lent table.
-use mathlib.Core.Path.{_≡_, refl, sym, ap, _∙_}
+use mathlib.Core.Path.{_≡_, refl, sym, ap}
 use Prim.Native.Nat.{ℕ, _≤_, _<_, _^_}
 use native.Mathlib.Omega.{arith}
 use mathlib.Core.List.{List, [], _∷_}

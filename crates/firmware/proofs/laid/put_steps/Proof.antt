@@ -51,10 +51,10 @@ use Rattle.board.specs.declared.run.RanTaken.{RanTaken}
 use Rattle.board.specs.Changes.{withTaken, tableWith}
 use Rattle.board.proofs.run.RanTaken as P
 use Rattle.board.proofs.run.RanTaken.Laws as P′
-use Rattle.board.proofs.command.with_taken as with
-use Rattle.board.proofs.command.with_taken.Symbol as with-def
-use Rattle.board.proofs.command.with_taken.Symbol.{name as #with}
-use Rattle.board.proofs.command.with_taken.Met as with-thm
+use Rattle.board.proofs.table.with_taken as with
+use Rattle.board.proofs.table.with_taken.Symbol as with-def
+use Rattle.board.proofs.table.with_taken.Symbol.{name as #with}
+use Rattle.board.proofs.table.with_taken.Met as with-thm
 use Rattle.hand.proofs.Frame.{room, holds, Blocks, envOf, locals, at, since, enters-all, frees-all, empties, holds-also, takes-out, lands-in}
 use Rattle.hand.proofs.Calls.{Meant, tokens, calls-meant}
 use Rattle.hand.proofs.Contracts.{by-hand}
@@ -295,4 +295,4 @@ put-steps-spec 𝓤 H 𝓜 𝓖 𝓡 =
     (λ κs qs bounds a _ are. needs 𝓤 (a .1 .0 .ran .number ≡ 0 → mostCommands ≤ length (a .0 .now)) _ (λ within.
     walk 𝓤 H A W (𝓜 .mem) (𝓡 .run) (κs .0) (qs .0) (a .0 .ptr .0) (a .0 .ptr .1) (a .0 .name) (a .0 .now) (a .1 .0) (are .0 .0 .1) (are .1 .0) within (tablesOf 𝓤 H 𝓜 (tables 𝓤 H 𝓜 𝓡 code.env))
     (cited 𝓤 H (Changed 𝓤 H A (𝓜 .mem) (𝓡 .run)) 𝓜 𝓡 code.env #changed changed-def.routine code.calls-firmware·laid·changed (changed-thm.met 𝓤 H 𝓜 𝓖 𝓡))
-    (cited 𝓤 H (With 𝓤 H A (𝓜 .mem) (𝓡 .run)) 𝓜 𝓡 code.env #with with-def.routine code.calls-board·command·with-taken (with-thm.met 𝓤 H 𝓜 𝓖 𝓡))))
+    (cited 𝓤 H (With 𝓤 H A (𝓜 .mem) (𝓡 .run)) 𝓜 𝓡 code.env #with with-def.routine code.calls-board·table·with-taken (with-thm.met 𝓤 H 𝓜 𝓖 𝓡))))

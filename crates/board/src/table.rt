@@ -1,0 +1,27 @@
+// Steps taken, laid into a record and into a table: all that a run changes of them.
+use crate::RECORDS;
+use meaning::Record;
+ghost use mathlib.Core.Path.{_≡_};
+ghost use Rattle.board.specs.Changes.{withTaken, tableWith};
+
+// The same command with so many steps taken.
+pub fn with_taken(r: Record, taken: u32) -> Record
+    ensures { λ s. ⌜ s ≡ withTaken taken r ⌝ }
+{
+    let mut s = r;
+    s.taken = taken;
+    s
+}
+
+// The table with these steps taken.
+pub(crate) fn table_with(table: [Record; 32], taken: [u32; 32]) -> [Record; 32]
+    ensures { λ t. ⌜ t ≡ tableWith taken table ⌝ }
+{
+    let mut after = table;
+    let mut k = 0;
+    while k < RECORDS {
+        after[k] = with_taken(after[k], taken[k]);
+        k += 1;
+    }
+    after
+}
