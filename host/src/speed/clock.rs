@@ -11,7 +11,7 @@ pub struct Side {
     pub units: usize,
 }
 
-pub const ROUNDS: usize = 15;
+pub const ROUNDS: usize = 45;
 /// How long one side is timed in one round.
 const ROUND: Duration = Duration::from_millis(8);
 /// A slow side, as the second program is, gets at least this many batches a round.
