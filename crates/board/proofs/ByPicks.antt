@@ -1,11 +1,11 @@
 -- The loop of a run by picks: what the whole list comes to is what the picks that are left come to from here. One law for an accepted
 -- pick, one for a refused one, and what is known at the end.
 use mathlib.Core.Path.{_≡_, refl, sym, ap, _∙_, subst}
-use Prim.Native.Nat.{ℕ, suc, _+_, _≤_, _<_}
+use Prim.Native.Nat.{ℕ, _+_, _≤_, _<_}
 use native.Mathlib.Nat.{zero-add}
 use native.Mathlib.Numerals.{add-one}
 use native.Mathlib.Omega.{arith}
-use mathlib.Core.Bool.{Bool, false}
+use mathlib.Core.Bool.{Bool}
 use mathlib.Core.List.{List}
 use lib.ListN.{length, getD, drop, set, replicate, length-set, drop-of-length-le}
 use lib.Seq.{drop-cons}
@@ -18,7 +18,7 @@ use Rattle.meaning.specs.State.{State, stateOf, mostCommands}
 use Rattle.meaning.specs.Command.{finished, remaining, noRecord}
 use Rattle.meaning.specs.Step.{step, stepped}
 use Rattle.meaning.specs.Pick.{badRecord, placeNumber, pickNumber, stepAt}
-use Rattle.meaning.specs.Run.{Tally, atStart, onePick, picksFrom, byPicks, stepsLeft, allFinished, runNumber}
+use Rattle.meaning.specs.Run.{Tally, onePick, picksFrom, byPicks, stepsLeft, allFinished, runNumber}
 use Rattle.meaning.proofs.Rows.{pass, stop}
 use Rattle.meaning.proofs.Means.{Means, holds, fails, means-eq}
 use Rattle.meaning.proofs.Numbers.{Passed, run-passed, passed-place, place-free, none-bad, store-right, most-32}

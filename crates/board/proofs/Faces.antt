@@ -17,7 +17,7 @@ use Rattle.meaning.specs.Sizes.{storeWrong, sizesWrong}
 use Rattle.meaning.specs.Command.{noRecord}
 use Rattle.meaning.specs.Step.{step, stepped}
 use Rattle.meaning.specs.Pick.{pickNumber, stepAt, picked, PickGives}
-use Rattle.meaning.specs.Run.{Tally, atStart, byPicks, asWritten, allFinished, runNumber, ranTo, runReply, RunGives}
+use Rattle.meaning.specs.Run.{Tally, atStart, byPicks, asWritten, runNumber, ranTo, runReply, RunGives}
 use Rattle.meaning.proofs.Rows.{pass, stop, or-later}
 use Rattle.meaning.proofs.Means.{Means, holds, fails, means-lt}
 use Rattle.meaning.proofs.Numbers.{run-passed, pick-passed, place-free, most-32}

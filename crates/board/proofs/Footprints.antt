@@ -1,6 +1,6 @@
 -- The footprints that a run by picks works out before its first pick: of each record one, whatever steps are taken of it later. Whether a
 -- command blocks another is seen by them and by the steps taken.
-use mathlib.Core.Path.{_≡_, refl, sym, ap, ap₂, _∙_}
+use mathlib.Core.Path.{_≡_, sym, ap, ap₂, _∙_}
 use Prim.Native.Nat.{ℕ, _+_, _≤_, _<_}
 use native.Mathlib.Omega.{arith}
 use mathlib.Core.Bool.{Bool, false}

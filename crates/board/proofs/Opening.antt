@@ -1,8 +1,7 @@
 -- The first loop of a run: it takes the steps taken out of the table, and finds whether a record in use is bad and how many steps are left.
 -- After all 32 records that gives number 9, and with the sizes the run's number.
 use mathlib.Core.Path.{_≡_, refl, sym, ap, _∙_}
-use Prim.Native.Nat.{ℕ, zero, suc, _+_, _*_, _≤_, _<_}
-use native.Mathlib.Nat.{add-assoc, add-zero}
+use Prim.Native.Nat.{ℕ, _+_, _*_, _≤_, _<_}
 use native.Mathlib.Numerals.{add-one}
 use native.Mathlib.Omega.{arith}
 use mathlib.Core.Bool.{Bool, true, false, _||_, cond, or-assoc}
@@ -15,7 +14,7 @@ use Rattle.meaning.specs.declared.Record.{Record}
 use Rattle.meaning.specs.Each.{someOf, sumOf}
 use Rattle.meaning.specs.Store.{Store, lent}
 use Rattle.meaning.specs.State.{State, stateOf, mostCommands}
-use Rattle.meaning.specs.Sizes.{storeWrong, sizesWrong}
+use Rattle.meaning.specs.Sizes.{storeWrong}
 use Rattle.meaning.specs.Command.{remaining, noRecord}
 use Rattle.meaning.specs.Pick.{badRecord, spoiled}
 use Rattle.meaning.specs.Run.{stepsLeft, runNumber}

@@ -16,7 +16,7 @@ use Rattle.meaning.specs.Touch.{touched, conflict}
 use Rattle.meaning.specs.Step.{stepped}
 use Rattle.meaning.specs.Pick.{waits}
 use Rattle.meaning.proofs.Rows.{or-none, or-false, and-first, and-second}
-use Rattle.meaning.proofs.Tests.{and-no, and-false}
+use Rattle.meaning.proofs.Tests.{and-no}
 use Rattle.meaning.proofs.Means.{Means, holds, fails, is-true, means-itself, means-eq, means-some}
 
 -- ---- a search from the front

@@ -9,7 +9,6 @@ use lib.ListN.{length, getD, set, take}
 use lib.Seq.{take-all}
 use Rattle.meaning.specs.declared.Record.{Record}
 use Rattle.meaning.specs.Command.{noRecord}
-use Rattle.meaning.specs.Touch.{touched, conflict}
 use Rattle.meaning.specs.Step.{stepped}
 use Rattle.meaning.specs.Run.{advanced}
 use Rattle.board.specs.Changes.{withTaken, tableWith, takenOf}
@@ -116,8 +115,3 @@ module _ (taken : List ℕ) (t after : List Record) (k : ℕ) (w : Laying taken 
 
   pub laying-end : 32 ≤ k → after ≡ tableWith taken t
   laying-end h = w .laid ∙ ap (λ (ns : List ℕ). tableWith ns t) (take-all k taken (omega (arith, w .long)))
-
--- what a command touches does not change with its steps
-pub conflict-with : (n : ℕ) (e r : Record) → conflict (withTaken n e) r ≡ conflict e r
-unfolding conflict touched withTaken
-conflict-with n e r = refl

@@ -1,6 +1,6 @@
 -- The loop of a run as written: what the whole comes to is what is left of the budget and of the commands from here, behind the commands
 -- that were passed. One law for a turn, and what is known at the end.
-use mathlib.Core.Path.{_≡_, refl, sym, ap, ap₂, _∙_, subst}
+use mathlib.Core.Path.{_≡_, refl, sym, ap, ap₂, _∙_}
 use Prim.Native.Nat.{ℕ, zero, suc, _+_, _-_, _≤_, _<_, min}
 use native.Mathlib.Nat.{zero-add, add-zero, add-assoc}
 use native.Mathlib.Numerals.{add-one}
@@ -14,7 +14,7 @@ use borrow.Author.Tests.{eq-eqb, ne-eqb}
 use Rattle.meaning.specs.declared.Drive.{Drive}
 use Rattle.meaning.specs.declared.Record.{Record}
 use Rattle.meaning.specs.Store.{Store, memory, disk, lent}
-use Rattle.meaning.specs.State.{State, stateOf, mostCommands}
+use Rattle.meaning.specs.State.{stateOf, mostCommands}
 use Rattle.meaning.specs.Command.{remaining, noRecord}
 use Rattle.meaning.specs.Run.{Tally, atStart, advanced, stepsDone, written, asWritten, stepsLeft, allFinished, runNumber}
 use Rattle.meaning.specs.Each.{sumOf}
@@ -24,7 +24,7 @@ use Rattle.meaning.proofs.Means.{Means, holds, fails, means-le}
 use Rattle.meaning.proofs.Numbers.{Passed, run-passed, none-bad, store-right, most-32}
 use Rattle.meaning.proofs.Counts.{none-left, of-written, smaller}
 use Rattle.meaning.proofs.Still.{store-as-long, bad-as-long}
-use Rattle.board.specs.Changes.{withTaken, tableWith, takenOf}
+use Rattle.board.specs.Changes.{tableWith, takenOf}
 use Rattle.board.specs.Ready.{Ready}
 use Rattle.board.proofs.Moving.{ready}
 use Rattle.board.proofs.Taken.{steps-with, length-with, set-with, own-table}

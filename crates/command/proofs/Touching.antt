@@ -5,7 +5,7 @@ use Prim.Native.Nat.{ℕ, _+_, _*_, max, min}
 use native.Mathlib.Nat.{add-zero, max-comm, min-comm, le-max-right, min-le-right}
 use native.Mathlib.Omega.{arith}
 use mathlib.Core.Bool.{Bool, true, false, not, _&&_, _||_, cond, true≢false}
-use mathlib.Core.List.{List, _++_}
+use mathlib.Core.List.{_++_}
 use lib.Dec.{ltb}
 use borrow.Author.Tests.{le-ltb}
 use Rattle.meaning.specs.declared.Record.{Record}

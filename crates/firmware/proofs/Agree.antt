@@ -5,9 +5,9 @@ use Prim.Native.Nat.{ℕ, _≤_, _<_}
 use native.Mathlib.Omega.{arith}
 use mathlib.Core.Bool.{Bool, true, false, cond}
 use mathlib.Core.List.{List, [], _∷_, _++_, append-nil, append-assoc}
-use lib.ListN.{length, take, drop, length-append, length-drop, drop-of-length-le, take-append-drop}
+use lib.ListN.{length, drop, length-append, drop-of-length-le, take-append-drop}
 use lib.Dec.{eqb}
-use lib.Seq.{take-all, length-take-le, drop-append-le}
+use lib.Seq.{length-take-le, drop-append-le}
 use borrow.Author.Tests.{eqb-true}
 use Rattle.meaning.specs.declared.Drive.{Drive}
 use Rattle.meaning.specs.declared.Record.{Record}

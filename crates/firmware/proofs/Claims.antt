@@ -1,10 +1,10 @@
 -- What the board answers to a call whose table was copied out of a lent one, told of the lent table: it is the whole of that call, and
 -- what it lays back has its place. And the steps of a chain, which are read off such a copy.
 use mathlib.Core.Path.{_≡_, refl, sym, _∙_, ap}
-use Prim.Native.Nat.{ℕ, _+_, _≤_, _<_, min}
+use Prim.Native.Nat.{ℕ, _≤_, _<_, min}
 use native.Mathlib.Omega.{arith}
 use native.Mathlib.Decide.{decLt}
-use mathlib.Core.List.{List, [], _++_, append-nil}
+use mathlib.Core.List.{List, append-nil}
 use lib.ListN.{length, take, drop}
 use lib.Seq.{take-all, take-take, take-append-le, length-take-le}
 use Rattle.meaning.specs.declared.Drive.{Drive}

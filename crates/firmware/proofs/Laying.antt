@@ -1,13 +1,13 @@
 -- Records that are laid one by one. After k of them a table is the first k records of one over those of another; or the same table
 -- with the steps taken of its first k records.
-use mathlib.Core.Path.{_≡_, refl, sym, _∙_, ap}
+use mathlib.Core.Path.{_≡_, refl, _∙_, ap}
 use Prim.Native.Nat.{ℕ, zero, suc, _+_, _≤_, _<_}
 use native.Mathlib.Nat.{not-suc-le-zero, le-of-suc-le-suc}
 use native.Mathlib.Omega.{arith}
 use mathlib.Core.Bool.{Bool, true, false, cond}
-use mathlib.Core.List.{List, [], _∷_, _++_}
+use mathlib.Core.List.{List, [], _∷_}
 use lib.Dec.{eqb}
-use lib.ListN.{length, take, drop, set, getD, length-append, length-take, length-drop}
+use lib.ListN.{length, take, set, getD, length-append, length-take, length-drop}
 use lib.Seq.{take-all}
 use Rattle.meaning.specs.declared.Record.{Record}
 use Rattle.meaning.specs.State.{mostCommands}

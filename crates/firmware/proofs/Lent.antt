@@ -17,11 +17,11 @@ use prog.Memory.{Memory}
 use prog.Model.{Model}
 use prog.Routine.{Routine, Env as Names}
 use prog.Wp.{Heap, Env, WpFn, Tables, Closed}
-use ghost.Atoms.{Atoms, sem}
+use ghost.Atoms.{Atoms}
 use contract.Lifetimes.{Lfts}
 use contract.Monad.{Fun, fact}
 use contract.Running.{Running, GhostRules, givenOf, tables, tablesOf}
-use types.Kit.{Given, Item, Sq, runs, lands, atRet, ‵, raw, some, later, _⊛_, ⋆, _$_, _∵_, !, qed, by, move, drop, use1, use2, use3, split, join, pick, fsplit, fjoin, feqL, suffices, frame, await, done}
+use types.Kit.{Given, Item, Sq, runs, lands, atRet, ‵, raw, some, later, _⊛_, ⋆, _$_, _∵_, !, qed, by, move, drop, use2, use3, split, join, pick, fsplit, fjoin, feqL, suffices, frame, await, done}
 use types.Run.{look, init, stop, hop, fld, from, load, addr, of-opd, and-then, no-more, assigns, land, returns, params1, pass1, pass0}
 use types.Tokens.{lft-new, lft-end}
 use types.Part.{agg, whole, sub, look-in}
@@ -375,13 +375,7 @@ module _ {M : Type 1} (𝓤 : URA M) (H : Heap 𝓤) (A : Atoms 𝓤) (W : Given
     abbrev pub E : Env 𝓤 H
     E = envOf (frame-of c) ls
 
-    -- after the board's answer v, and once the table is lent again for the last call
-    abbrev Took : Val → Val → List (Item 𝓤)
-    Took uv v = locals E
-        (room ∷ holds mv ∷ holds iv ∷ holds dv ∷ holds tv ∷ holds (vint w64 commands) ∷ holds xv ∷ holds (vint w64 n) ∷ holds uv ∷ holds v
-        ∷ holds (vptr (t .ptr .0) (t .ptr .1)) ∷ holds tv ∷ holds (vptr (m .ptr .0) (m .ptr .1)) ∷ holds mv ∷ holds (vptr (i .ptr .0) (i .ptr .1)) ∷ holds iv ∷ [])
-        []
-
+    -- after the board's answer v, once the table is lent again for the last call
     abbrev pub Lent : Val → Val → List (Item 𝓤)
     Lent uv v = locals E
         (room ∷ holds mv ∷ holds iv ∷ holds dv ∷ holds tv ∷ holds (vint w64 commands) ∷ holds xv ∷ holds (vint w64 n) ∷ holds uv ∷ holds v

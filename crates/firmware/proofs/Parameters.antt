@@ -1,6 +1,5 @@
 -- The last parameters that the calls over a lent table have: a number, and a lent list of bytes.
 use mathlib.Core.Path.{refl}
-use mathlib.Core.List.{[], _∷_}
 use lib.ListN.{length}
 use contract.Lifetimes.{Lfts}
 use mir.Syntax.{Ty, named, imm, w64, tyInt, tyRef}

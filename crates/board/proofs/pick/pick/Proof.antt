@@ -2,7 +2,6 @@
 use mathlib.Core.Path.{sym}
 use native.Mathlib.Omega.{arith}
 use borrow.Author.Tests.{eq-eqb, ne-eqb}
-use Rattle.meaning.specs.Store.{lent}
 use Rattle.meaning.specs.State.{stateOf}
 use Rattle.meaning.proofs.Rows.{pass, stop}
 use Rattle.board.proofs.Faces.{pick-by-value, laid-at}

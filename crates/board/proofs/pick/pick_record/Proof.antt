@@ -1,14 +1,12 @@
 -- `board::pick::pick_record` meets its contract: each test decides a row of the numbers, in the first loop the records passed are good and
 -- in the second they do not block; past both the step lies within memory and image.
 use mathlib.Core.Path.{_≡_, refl, sym, ap, _∙_}
-use Prim.Native.Nat.{ℕ, _≤_, _<_, _-_}
+use Prim.Native.Nat.{ℕ, _≤_, _-_}
 use native.Mathlib.Omega.{arith}
-use mathlib.Core.Bool.{Bool, false, _||_}
-use mathlib.Core.List.{List}
+use mathlib.Core.Bool.{false, _||_}
 use lib.ListN.{getD, take}
 use lib.Dec.{ltb}
 use borrow.Author.Needs.{needs}
-use Rattle.meaning.specs.declared.Record.{Record}
 use Rattle.meaning.specs.Each.{someOf}
 use Rattle.meaning.specs.Store.{lent}
 use Rattle.meaning.specs.State.{stateOf, mostCommands}

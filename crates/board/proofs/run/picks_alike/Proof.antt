@@ -1,5 +1,5 @@
 -- `board::run::picks_alike` meets its contract: the picks passed all name the first one's place.
-use Prim.Native.Nat.{_≤_, _-_}
+use Prim.Native.Nat.{_-_}
 use native.Mathlib.Omega.{arith}
 use borrow.Author.Needs.{needs}
 use Rattle.board.specs.Alike.{Alike}

@@ -1,19 +1,18 @@
 -- `board::run::picks_taken` meets its contract: its first loop keeps `Opened` and its second `PicksLeft`; the search in it decides whether
 -- the pick waits.
 use mathlib.Core.Path.{_≡_, refl, sym, ap, _∙_, subst}
-use Prim.Native.Nat.{ℕ, _+_, _≤_, _<_, _-_, min}
+use Prim.Native.Nat.{ℕ, _+_, _≤_, _<_, _-_}
 use native.Mathlib.Omega.{arith}
 use mathlib.Core.Bool.{Bool, true, false}
 use mathlib.Core.List.{List}
 use lib.ListN.{length, getD, take, set}
 use borrow.Author.Needs.{needs}
 use Rattle.meaning.specs.declared.Record.{Record}
-use Rattle.meaning.specs.Store.{lent}
 use Rattle.meaning.specs.State.{stateOf, mostCommands}
 use Rattle.meaning.specs.Command.{remaining, noRecord}
 use Rattle.meaning.specs.Run.{runNumber, byPicks}
-use Rattle.command.specs.Footprints.{noFootprint, footprintOf, footprintsMeet}
-use Rattle.board.specs.Changes.{tableWith, takenOf, handed}
+use Rattle.command.specs.Footprints.{noFootprint, footprintOf}
+use Rattle.board.specs.Changes.{tableWith, handed}
 use Rattle.board.proofs.Opening.{Opened, opened-begin, opened-more, all-taken, all-left, number-is, whole-handed, run-goes}
 use Rattle.board.proofs.Runs.{refused-takes, accepted-takes}
 use lib.Dec.{eqb}
@@ -23,7 +22,7 @@ use Rattle.meaning.specs.Command.{finished}
 use Rattle.meaning.specs.Pick.{waits, placeNumber}
 use Rattle.board.specs.Changes.{withTaken, RunTakes}
 use Rattle.board.proofs.Moving.{steps-small}
-use Rattle.board.proofs.Searching.{none-more, some-here, blocking, Searched, searched-to}
+use Rattle.board.proofs.Searching.{none-more, some-here, blocking, searched-to}
 use Rattle.board.proofs.Picking.{no-place, is-finished, has-to-wait, may-go}
 use Rattle.board.proofs.Taken.{length-with}
 use Rattle.board.proofs.Footprints.{Footprinted, footprinted-none, footprinted-more, done-free, by-footprints}

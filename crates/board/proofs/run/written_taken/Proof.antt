@@ -1,17 +1,13 @@
 -- `board::run::written_taken` meets its contract: its first loop keeps `Opened` and its second `WrittenLeft`.
 use mathlib.Core.Path.{_≡_, refl, sym, ap, _∙_, subst}
-use Prim.Native.Nat.{ℕ, _+_, _≤_, _<_, _-_, min}
+use Prim.Native.Nat.{ℕ, _≤_, _-_, min}
 use native.Mathlib.Omega.{arith}
-use mathlib.Core.Bool.{Bool, false}
-use mathlib.Core.List.{List}
-use lib.ListN.{getD, take, set}
+use lib.ListN.{getD}
 use borrow.Author.Needs.{needs}
-use Rattle.meaning.specs.declared.Record.{Record}
-use Rattle.meaning.specs.Store.{lent}
 use Rattle.meaning.specs.State.{stateOf, mostCommands}
 use Rattle.meaning.specs.Command.{remaining, noRecord}
 use Rattle.meaning.specs.Run.{runNumber, asWritten}
-use Rattle.board.specs.Changes.{tableWith, takenOf, handed}
+use Rattle.board.specs.Changes.{handed}
 use Rattle.board.proofs.Opening.{Opened, opened-begin, opened-more, all-taken, all-left, number-is, whole-handed, run-goes}
 use Rattle.board.proofs.Runs.{refused-takes, accepted-takes}
 use Rattle.meaning.specs.declared.Ran.{Ran}

@@ -1,10 +1,6 @@
 -- `board::table::table_with` meets its contract: the records passed have their new steps taken, and the others are as they were.
-use mathlib.Core.Path.{_≡_, refl, sym, ap, _∙_}
-use Prim.Native.Nat.{ℕ, _≤_, _+_, _-_}
+use Prim.Native.Nat.{_-_}
 use native.Mathlib.Omega.{arith}
-use mathlib.Core.List.{List, _++_}
-use lib.ListN.{length, take, drop}
-use Rattle.board.specs.Changes.{tableWith}
 use Rattle.board.proofs.Taken.{Laying, laying-begin, laying-more, laying-end}
 use borrow.Author.Needs.{needs}
 use Rattle.board.proofs.table.table_with.Statement.{statement}

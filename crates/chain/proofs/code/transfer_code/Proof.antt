@@ -1,5 +1,5 @@
 -- `chain::code::transfer_code` meets its contract. At each place the rows before it were passed: what is left of the table decides.
-use mathlib.Core.Path.{_≡_, refl, sym, ap, _∙_}
+use mathlib.Core.Path.{_≡_, sym, ap, _∙_}
 use Prim.Native.Nat.{ℕ}
 use mathlib.Core.Bool.{not}
 use lib.ListN.{drop}

@@ -28,7 +28,7 @@ use denote.Array.{Array}
 use denote.Laws.{Is, valss, shows}
 use denote.Lend.{Held}
 use denote.Plain.{uint-vals, uint-tells, uint-makes, uint-lawful}
-use denote.Builtin.{u8, u32, usize}
+use denote.Builtin.{u8, u32}
 use denote.Index.{row, place-is, elem-out, elem-back, elem-put, opens-slice, closes-slice}
 use denote.Ref.{RefT}
 use denote.Slice.{sliceVal, MutSlice, Room, heres, codedHoleys, finally, slice-vals, mut-slice-tells}
@@ -42,7 +42,6 @@ use denote.Triple.Walked.{says, needs, Stays, gave-slice, stay-dropped, walkOf, 
 use denote.Exit.{yes}
 use denote.Signature.{plain}
 use Rattle.meaning.specs.declared.Record.{Record}
-use Rattle.meaning.specs.declared.Ran.{Ran}
 use Rattle.meaning.specs.State.{mostCommands}
 use Rattle.meaning.specs.Command.{noRecord}
 use Rattle.meaning.proofs.Ran as Rn

@@ -1,7 +1,7 @@
 -- `firmware::rosadenca_chain_steps` meets its contract: a walk of its code, by hand, from call to call. All that it knows of the three
 -- callees is that each meets its contract. A `&` is Copy: what the lent table owns goes to `load`, and nothing is had of it at the exit.
 use mathlib.Core.Path.{_≡_, refl, ap, subst, _∙_}
-use Prim.Native.Nat.{ℕ, _≤_, _<_, _^_, min}
+use Prim.Native.Nat.{ℕ, _<_, _^_, min}
 use native.Mathlib.Omega.{arith}
 use mathlib.Core.List.{List, [], _∷_}
 use lib.ListN.{length}
