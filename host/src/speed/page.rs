@@ -137,6 +137,12 @@ fn machine() -> String {
 /// measured, so whoever changes that code empties it or makes a new profile; empty, it is left out.
 const PROFILE: &str = "";
 
+/// What is to be known of the row of 128 sectors, on the code as it is measured: written by hand, like
+/// the profile.
+const EDGE: &str =
+    "This row lies at the edge of its goal: five runs in a row gave 1.03 to 1.05, of which \
+                    four met it. ";
+
 /// By how much goals are missed, and what a profile shows of it.
 fn misses(rows: &[Row]) -> String {
     let missed: Vec<String> = rows.iter().filter_map(Row::missed).collect();
@@ -167,7 +173,7 @@ pub fn page(rows: &[Row], counted: &[Counted]) -> String {
          which 128 sectors fill, so from 8 sectors on commands share their data area. A run tests sizes and table, moves \
          every sector and closes every command; the copy only moves the sectors. At 128 sectors the data of every command \
          lies over all IOPBs, so the next command reads status bytes that were posted just before: ordinary Rust without its \
-         close takes as long there as the copy, and with it some 4 % longer. Places in turn: all picks of a place \
+         close takes as long there as the copy, and with it 3 to 5 % longer. {EDGE}Places in turn: all picks of a place \
          before those of the next, since commands of 128 sectors all wait for each other.\n\
          - \"Ordinary Rust\" is host/src/ordinary.rs: the same replies with no proofs, written for speed as far as it \
          stays easy to read; it says what faster form was left out. The second program is second/, which is plain and \
