@@ -1,6 +1,5 @@
 /* Lays a chain of IOPBs: numbers of several bytes have the high byte first. */
 #include "chain.h"
-#include "disk.h"
 
 #include <string.h>
 
@@ -19,26 +18,30 @@ static void four_bytes(uint8_t *at, uint32_t number)
 }
 
 /* One IOPB, not yet chained to another. */
-static void lay_iopb(uint8_t *iopb, const wish *w)
+static void lay_iopb(uint8_t *iopb, rosadenca_disk_place first, const wish *w)
 {
     memset(iopb, 0, ROSADENCA_IOPB_BYTES);
     iopb[0x00] = w->command;
     two_bytes(iopb + 0x08, w->count);
-    /* the board wants cylinder, head and sector of the first sector, not its number */
-    two_bytes(iopb + 0x0A, (uint16_t)(w->sector / (HEADS * SECTORS_PER_TRACK)));
-    iopb[0x0C] = (uint8_t)(w->sector / SECTORS_PER_TRACK % HEADS);
-    iopb[0x0D] = (uint8_t)(w->sector % SECTORS_PER_TRACK);
+    two_bytes(iopb + 0x0A, first.cylinder);
+    iopb[0x0C] = first.head;
+    iopb[0x0D] = first.sector;
     four_bytes(iopb + 0x10, w->address);
 }
 
-void lay_chain(uint8_t *memory, const wish *wishes, size_t count)
+bool lay_chain(uint8_t *memory, rosadenca_drive drive, const wish *wishes, size_t count)
 {
     for (size_t k = 0; k < count; k++) {
         uint8_t *iopb = memory + IOPB_SPACING * k;
-        lay_iopb(iopb, &wishes[k]);
+        /* an IOPB wants cylinder, head and sector of the first sector, not its number */
+        rosadenca_placed first = rosadenca_place(drive, wishes[k].sector);
+        if (first.number != ROSADENCA_ACCEPTED)
+            return false;
+        lay_iopb(iopb, first.place, &wishes[k]);
         if (k + 1 < count) {
             iopb[0x00] |= CHEN;
             four_bytes(iopb + 0x14, (uint32_t)(IOPB_SPACING * (k + 1)));
         }
     }
+    return true;
 }

@@ -16,7 +16,7 @@ typedef struct {
 /* IOPBs lie 32 bytes apart from address 0 on: they have 30 bytes, and an even address. */
 enum { IOPB_SPACING = 32 };
 
-/* Lays one IOPB for each wish, chained one to the next. */
-void lay_chain(uint8_t *memory, const wish *wishes, size_t count);
+/* Lays one IOPB for each wish, chained one to the next. Whether the drive has the first sector of every wish. */
+bool lay_chain(uint8_t *memory, rosadenca_drive drive, const wish *wishes, size_t count);
 
 #endif

@@ -15,6 +15,7 @@ rosadenca_drive disk_drive(void)
         .cylinder = CYLINDERS - 1,
         .head = HEADS - 1,
         .sector = SECTORS_PER_TRACK - 1,
+        .last_sector = SECTORS_ON_LAST_HEAD - 1,
         .write_protected = false,
     };
     return drive;

@@ -4,11 +4,12 @@
 
 #include "rosadenca.h"
 
-/* 4 cylinders of 2 heads of 8 sectors: the maxima are counted from zero. */
-enum { CYLINDERS = 4, HEADS = 2, SECTORS_PER_TRACK = 8, SECTORS = CYLINDERS * HEADS * SECTORS_PER_TRACK };
+/* 4 cylinders of 2 heads. The last head of a cylinder has fewer sectors than the other; with equal heads the two would be the same. */
+enum { CYLINDERS = 4, HEADS = 2, SECTORS_PER_TRACK = 8, SECTORS_ON_LAST_HEAD = 6 };
+enum { SECTORS_PER_CYLINDER = (HEADS - 1) * SECTORS_PER_TRACK + SECTORS_ON_LAST_HEAD, SECTORS = CYLINDERS * SECTORS_PER_CYLINDER };
 enum { DISK_BYTES = SECTORS * ROSADENCA_SECTOR_BYTES };
 
-/* The drive as the board wants it told. */
+/* The drive as the board wants it told: by the largest numbers, counted from zero. */
 rosadenca_drive disk_drive(void);
 
 /* Maps an image file, so that what the board writes to it is in the file. NULL, and a line on standard error, where the file is not

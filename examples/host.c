@@ -1,6 +1,7 @@
 /*
- * A small host: maps an image file as the board's disk, lays a chain of five commands in its own memory, has the board walk it, takes
- * some steps in an order of its own, lets the board do the rest as written, and says in words what happened.
+ * A small host: maps an image file as the board's disk, asks the board where some sectors are, lays a chain of five commands in its own
+ * memory, has the board walk it, takes some steps in an order of its own, lets the board do the rest as written, and says in words what
+ * happened.
  * Usage: host IMAGE. tools/example builds it, makes an image for it and runs it.
  */
 #include "chain.h"
@@ -36,7 +37,7 @@ static const char *number_in_words(uint8_t number)
 {
     switch (number) {
     case ROSADENCA_ACCEPTED: return "accepted";
-    case ROSADENCA_SIZES_WRONG: return "memory, image or table have the wrong size";
+    case ROSADENCA_SIZES_WRONG: return "memory, image or table have the wrong size, or the last head is longer than the others";
     case ROSADENCA_ADDRESS_ODD: return "the first address is odd";
     case ROSADENCA_IOPB_OUTSIDE: return "an IOPB is not all in memory";
     case ROSADENCA_IOPB_SHARED: return "two IOPBs share a byte";
@@ -60,11 +61,36 @@ static const char *code_in_words(uint8_t code)
     case ROSADENCA_CODE_COUNT_ZERO: return "the count of sectors is zero";
     case ROSADENCA_CODE_CYLINDER: return "the cylinder is too high, or the drive ends too early";
     case ROSADENCA_CODE_HEAD: return "the head is too high";
-    case ROSADENCA_CODE_SECTOR: return "the sector is too high";
+    case ROSADENCA_CODE_SECTOR: return "the sector is too high for its head";
     case ROSADENCA_CODE_WRITE_PROTECTED: return "the drive is protected";
     case ROSADENCA_CODE_BUS_ERROR: return "the data does not fit in memory";
     default: return "a code that the rules do not have";
     }
+}
+
+/* Says where a sector is, given by its number. */
+static void locate(const lent *host, uint32_t sector)
+{
+    rosadenca_placed placed = rosadenca_place(host->drive, sector);
+    if (placed.number != ROSADENCA_ACCEPTED) {
+        printf("  sector %" PRIu32 ": refused with number %d: %s\n", sector, placed.number, number_in_words(placed.number));
+        return;
+    }
+    printf("  sector %" PRIu32 " is cylinder %d, head %d, sector %d\n", sector, placed.place.cylinder, placed.place.head,
+           placed.place.sector);
+}
+
+/* Says what the disk has, and where some of its sectors are: the first that is read, the last of a cylinder, the first of the next
+   one, and one that is not there. */
+static void tell_disk(const lent *host)
+{
+    printf("My disk has %d cylinders. On each, head 0 has %d sectors and head %d, the last, only %d: %d sectors in all.\n",
+           (int)CYLINDERS, (int)SECTORS_PER_TRACK, HEADS - 1, (int)SECTORS_ON_LAST_HEAD, (int)SECTORS);
+    puts("The board says where a sector is, by its number:");
+    locate(host, wishes[0].sector);
+    locate(host, SECTORS_PER_CYLINDER - 1);
+    locate(host, SECTORS_PER_CYLINDER);
+    locate(host, SECTORS);
 }
 
 /* Walks the chain, and says what the table holds. Whether it was accepted. */
@@ -147,8 +173,12 @@ static void look(const lent *host, uint32_t sector)
 /* The whole story, on a mapped image. Whether it came to its end. */
 static bool play(lent *host)
 {
+    tell_disk(host);
     memcpy(host->memory + LETTER_AT, letter, sizeof letter);
-    lay_chain(host->memory, wishes, WISHES);
+    if (!lay_chain(host->memory, host->drive, wishes, WISHES)) {
+        fputs("host: a wish names a sector that the disk has not\n", stderr);
+        return false;
+    }
     if (!walk(host))
         return false;
     puts("I take steps in an order of my own, as it suits the arm:");

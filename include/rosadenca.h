@@ -3,9 +3,10 @@
  * which tools/archive makes, on 64-bit x86 and 64-bit Arm under Linux). The exact rules are docs/RULES.md, cited here by their
  * numbers, as in Walk 3; what is proved of each function stands at its source, crates/firmware. Needs C11, or C++11.
  *
- * How a host uses it: lay a chain of IOPBs in memory, rosadenca_walk it into a table of records, then take the steps, by
- * rosadenca_pick or rosadenca_run_picks in an order of your own, or by rosadenca_run_written as the chain is written. The board keeps
- * nothing between two calls: memory, image, drive, table and the number of commands are the caller's, and are lent for one call.
+ * How a host uses it: lay a chain of IOPBs in memory (rosadenca_place gives the cylinder, head and sector that an IOPB wants),
+ * rosadenca_walk it into a table of records, then take the steps, by rosadenca_pick or rosadenca_run_picks in an order of your own, or
+ * by rosadenca_run_written as the chain is written. The board keeps nothing between two calls: memory, image, drive, table and the
+ * number of commands are the caller's, and are lent for one call.
  *
  * What a caller owes, at every call:
  * - each pointer is to as many bytes (or records) as the length beside it says, all readable, and writable where there is no const;
@@ -42,8 +43,9 @@ enum {
 
 /* The numbers that calls answer with. */
 enum {
-    ROSADENCA_ACCEPTED = 0,          /* accepted: the table is filled, the step taken, the run done, the sector handed back */
-    ROSADENCA_SIZES_WRONG = 1,       /* memory, image or lent table have the wrong size: Size 1 to 4 */
+    ROSADENCA_ACCEPTED = 0,          /* accepted: the table is filled, the step taken, the run done, the sector handed back or placed */
+    ROSADENCA_SIZES_WRONG = 1,       /* memory, image or lent table have the wrong size, or the last head's maximum sector is above the
+                                        other: Size 1 to 5, Place 5 */
     ROSADENCA_ADDRESS_ODD = 2,       /* the address to start at is odd: Walk 6, View 3 */
     ROSADENCA_IOPB_OUTSIDE = 3,      /* an IOPB is not all in memory: Walk 8, View 4 */
     ROSADENCA_IOPB_SHARED = 4,       /* an IOPB shares a byte with an earlier one, as in a loop: Walk 9 */
@@ -52,7 +54,7 @@ enum {
     ROSADENCA_COMMAND_FINISHED = 7,  /* the command has no step left: Pick 5 */
     ROSADENCA_NO_SUCH_PLACE = 8,     /* the table has no command at that place: Pick 4 */
     ROSADENCA_TABLE_SPOILED = 9,     /* over 32 commands, or a record in use that cannot be run: Spoiled 1 to 7 */
-    ROSADENCA_NO_SUCH_SECTOR = 10    /* the drive has no such sector: Look 5 */
+    ROSADENCA_NO_SUCH_SECTOR = 10    /* the drive has no such sector: Look 5, Place 6 */
 };
 
 /* The completion codes, in byte 1 of a closed IOPB and in a record. The walk gives the first that applies: Code 1 to 12. */
@@ -63,7 +65,7 @@ enum {
     ROSADENCA_CODE_COUNT_ZERO = 0x13,      /* no sector to move: Code 5 */
     ROSADENCA_CODE_CYLINDER = 0x10,        /* the cylinder is above its maximum, or the drive ends too early: Code 6 and 9 */
     ROSADENCA_CODE_HEAD = 0x11,            /* the head is above its maximum: Code 7 */
-    ROSADENCA_CODE_SECTOR = 0x12,          /* the sector is above its maximum: Code 8 */
+    ROSADENCA_CODE_SECTOR = 0x12,          /* the sector is above the maximum of its own head: Code 8 */
     ROSADENCA_CODE_WRITE_PROTECTED = 0x90, /* a write to a protected drive: Code 10 */
     ROSADENCA_CODE_BUS_ERROR = 0x4B,       /* the data goes past the end of memory: Code 11 */
     ROSADENCA_CODE_SUCCESS = 0x00          /* none of these: Code 3 and 12 */
@@ -76,14 +78,31 @@ enum {
     ROSADENCA_READ_DATA = 2
 };
 
-/* The drive: three maxima counted from zero, and the write-protect mark (Board 3). Its image has exactly
-   512 x (cylinder + 1) x (head + 1) x (sector + 1) bytes (Drive 5). Passed by value. */
+/* The drive: four maxima counted from zero, and the write-protect mark (Board 3). The last head of a cylinder, the one whose number is
+   `head`, has a maximum sector of its own, so that it can be shorter than the others (Drive 2); where `head` is 0, the only head is
+   the last. A cylinder has head x (sector + 1) + (last_sector + 1) sectors (Drive 7), and the image exactly 512 x (cylinder + 1) x as
+   many bytes (Drive 5). If your heads are all equal, set last_sector to the same value as sector. With last_sector above sector every
+   call that takes the drive gives 1, whatever the image's length (Size 5, Place 5). Passed by value. */
 typedef struct rosadenca_drive {
     uint16_t cylinder;
     uint8_t head;
-    uint8_t sector;
+    uint8_t sector;      /* of every head but the last */
+    uint8_t last_sector; /* of the last head */
     bool write_protected;
 } rosadenca_drive;
+
+/* A place on a drive, as an IOPB names it. */
+typedef struct rosadenca_disk_place {
+    uint16_t cylinder;
+    uint8_t head;
+    uint8_t sector;
+} rosadenca_disk_place;
+
+/* What rosadenca_place gives. */
+typedef struct rosadenca_placed {
+    rosadenca_disk_place place; /* 0, 0, 0 where the number is not 0 */
+    uint8_t number;
+} rosadenca_placed;
 
 /* One accepted command, as the walk leaves it in the table: Record 3. A caller keeps records and hands them back; it has no need to
    write one. */
@@ -153,7 +172,15 @@ ROSADENCA_HOLDS(sizeof(rosadenca_drive) == 6);
 ROSADENCA_AT(rosadenca_drive, cylinder, 0);
 ROSADENCA_AT(rosadenca_drive, head, 2);
 ROSADENCA_AT(rosadenca_drive, sector, 3);
-ROSADENCA_AT(rosadenca_drive, write_protected, 4);
+ROSADENCA_AT(rosadenca_drive, last_sector, 4);
+ROSADENCA_AT(rosadenca_drive, write_protected, 5);
+ROSADENCA_HOLDS(sizeof(rosadenca_disk_place) == 4);
+ROSADENCA_AT(rosadenca_disk_place, cylinder, 0);
+ROSADENCA_AT(rosadenca_disk_place, head, 2);
+ROSADENCA_AT(rosadenca_disk_place, sector, 3);
+ROSADENCA_HOLDS(sizeof(rosadenca_placed) == 6);
+ROSADENCA_AT(rosadenca_placed, place, 0);
+ROSADENCA_AT(rosadenca_placed, number, 4);
 ROSADENCA_HOLDS(sizeof(rosadenca_record) == 20);
 ROSADENCA_AT(rosadenca_record, iopb, 0);
 ROSADENCA_AT(rosadenca_record, address, 4);
@@ -235,8 +262,8 @@ rosadenca_ran rosadenca_run_written(uint8_t *memory, size_t memory_length, uint8
                                     uint64_t budget);
 
 /*
- * The number of a look at a sector: 1 if the image has the wrong size, then 10 if there is no such sector, else 0 (Look 4 to 6).
- * Changes nothing.
+ * The number of a look at a sector: 1 if the image has the wrong size or the last head's maximum sector is above the other, then 10 if
+ * there is no such sector, else 0 (Look 4 to 6). Changes nothing.
  */
 uint8_t rosadenca_look_number(const uint8_t *image, size_t image_length, rosadenca_drive drive, uint32_t sector);
 
@@ -245,6 +272,14 @@ uint8_t rosadenca_look_number(const uint8_t *image, size_t image_length, rosaden
  * (Look 1 and 3). Changes nothing.
  */
 rosadenca_part rosadenca_look(const uint8_t *image, size_t image_length, rosadenca_drive drive, uint32_t sector);
+
+/*
+ * The place of a sector, given by its number: the cylinder, head and sector that have this number (Place 3). It needs no image, and
+ * changes nothing (Place 4).
+ * Numbers, in this order: 1 if the last head's maximum sector is above the other, 10 if the drive has no such sector; else 0
+ * (Place 5 to 7). On any number but 0 the place is 0, 0, 0 (Place 8). That is also the place of sector 0, so look at the number first.
+ */
+rosadenca_placed rosadenca_place(rosadenca_drive drive, uint32_t sector);
 
 /*
  * The steps of a chain from its start, whatever is taken of them: the sum of the steps of the first `commands` records of the table, of

@@ -118,7 +118,8 @@ static bool play_drive(void)
     drive.cylinder = (uint16_t)number[0];
     drive.head = (uint8_t)number[1];
     drive.sector = (uint8_t)number[2];
-    drive.write_protected = number[3] != 0;
+    drive.last_sector = (uint8_t)number[3];
+    drive.write_protected = number[4] != 0;
     return true;
 }
 
@@ -225,6 +226,13 @@ static bool play_look(void)
     return true;
 }
 
+static bool play_place(void)
+{
+    rosadenca_placed placed = rosadenca_place(drive, (uint32_t)number[0]);
+    printf("place %d %d %d %d\n", placed.number, placed.place.cylinder, placed.place.head, placed.place.sector);
+    return true;
+}
+
 static void print_fields(rosadenca_iopb v)
 {
     printf(" %d %d %d %d %d %d", v.errs, v.done, v.chen, v.sgm, v.command, v.completion);
@@ -258,12 +266,12 @@ static const struct {
     bool (*play)(void);
 } words[] = {
     {"case", 1, 1, play_case},         {"memory", 3, 3, play_memory},       {"put", 2, 65, play_put},
-    {"image", 4, 4, play_image},       {"disk", 2, 65, play_disk},          {"drive", 4, 4, play_drive},
+    {"image", 4, 4, play_image},       {"disk", 2, 65, play_disk},          {"drive", 5, 5, play_drive},
     {"record", 8, 8, play_record},     {"spoil", 3, 3, play_spoil},         {"commands", 1, 1, play_commands},
     {"lent", 1, 1, play_lent},         {"walk", 1, 1, play_walk},           {"pick", 1, 1, play_pick},
     {"picks", 0, 256, play_picks},     {"written", 1, 1, play_written},     {"look", 1, 1, play_look},
     {"fields", 1, 1, play_fields},     {"view", 1, 1, play_view},           {"lentwalk", 1, 1, play_lent_walk},
-    {"lentpick", 1, 1, play_lent_pick}, {"steps", 0, 0, play_steps},
+    {"lentpick", 1, 1, play_lent_pick}, {"steps", 0, 0, play_steps},        {"place", 1, 1, play_place},
 };
 
 /* Plays one line, which is taken apart. Whether it is in the format. */

@@ -3,7 +3,7 @@
 //! so nothing that a caller can pass here breaks what the C header says a caller owes.
 
 use crate::declared as c;
-use crate::declared::{Drive, Part, Ran, Record, Walked};
+use crate::declared::{Drive, Part, Placed, Ran, Record, Walked};
 
 /// Walks the chain that starts at an address into the lent table.
 pub fn walk(memory: &[u8], image: &[u8], drive: Drive, start: u32, table: &mut [Record]) -> Walked {
@@ -114,6 +114,13 @@ pub fn look_part(image: &[u8], drive: Drive, sector: u32) -> Part {
 pub fn look(image: &[u8], drive: Drive, sector: u32) -> &[u8] {
     let part = look_part(image, drive, sector);
     &image[part.at..part.at + part.length]
+}
+
+/// The place of a sector, given by its number. The call's own number is 1 where the last head's maximum
+/// is above the other, then 10 for a sector that the drive has not, else 0.
+pub fn place(drive: Drive, sector: u32) -> Placed {
+    // SAFETY: nothing is lent.
+    unsafe { c::rosadenca_place(drive, sector) }
 }
 
 /// The steps of a chain from its start: those of the first `commands` records that there are, 32 of

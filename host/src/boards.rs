@@ -1,7 +1,7 @@
 //! What a board is to its callers, so that the same tests and the same clock can be held to any:
 //! the archive, and the board written in the ordinary way.
 
-use crate::declared::{Drive, Part, Ran, Record, Walked};
+use crate::declared::{Drive, Part, Placed, Ran, Record, Walked};
 use crate::field::Fields;
 use crate::{archive, field, ordinary};
 
@@ -20,6 +20,7 @@ pub struct Board {
     pub run_written: Step<u64, Ran>,
     pub look_number: fn(&[u8], Drive, u32) -> u8,
     pub look_part: fn(&[u8], Drive, u32) -> Part,
+    pub place: fn(Drive, u32) -> Placed,
     pub view_number: fn(&[u8], u32) -> u8,
     pub view: fn(&[u8], u32) -> Fields,
 }
@@ -32,6 +33,7 @@ pub const ARCHIVE: Board = Board {
     run_written: archive::run_written,
     look_number: archive::look_number,
     look_part: archive::look_part,
+    place: archive::place,
     view_number: field::view_number,
     view: field::view,
 };
@@ -44,6 +46,7 @@ pub const ORDINARY: Board = Board {
     run_written: ordinary::run_written,
     look_number: ordinary::look_number,
     look_part: ordinary::look_part,
+    place: ordinary::place,
     view_number: ordinary::view_number,
     view: ordinary::view,
 };

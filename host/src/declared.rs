@@ -1,14 +1,35 @@
 //! What the archive declares: its structs, laid out as C lays them out, and its functions. A test
 //! holds every field and every parameter here to the firmware's source and to the C header.
 
-/// The drive: its maximum cylinder, head and sector, counted from zero, and the protect mark.
+/// The drive: its maximum cylinder, head and sector and the maximum sector of its last head, counted
+/// from zero, and the protect mark. Where all heads are equal, `last_sector` is the same as `sector`;
+/// where it is above, every call that takes the drive gives 1.
 #[repr(C)]
 #[derive(Clone, Copy, Debug, Default, PartialEq, Eq)]
 pub struct Drive {
     pub cylinder: u16,
     pub head: u8,
     pub sector: u8,
+    pub last_sector: u8,
     pub protected: bool,
+}
+
+/// A place on a drive, as an IOPB names it.
+#[repr(C)]
+#[derive(Clone, Copy, Debug, Default, PartialEq, Eq)]
+pub struct Place {
+    pub cylinder: u16,
+    pub head: u8,
+    pub sector: u8,
+}
+
+/// What the call for the place of a sector gives: the place, which is 0, 0, 0 where the call's number
+/// is not 0, and that number.
+#[repr(C)]
+#[derive(Clone, Copy, Debug, Default, PartialEq, Eq)]
+pub struct Placed {
+    pub place: Place,
+    pub number: u8,
 }
 
 /// One accepted command, as the walk leaves it in the table.
@@ -133,6 +154,7 @@ extern "C" {
         drive: Drive,
         sector: u32,
     ) -> Part;
+    pub(crate) fn rosadenca_place(drive: Drive, sector: u32) -> Placed;
     pub(crate) fn rosadenca_chain_steps(
         table: *const Record,
         table_length: usize,

@@ -10,7 +10,7 @@
 //! by picks of 32 commands, last to first, where alone it was tried, then took 1.9 us in place of 2.7;
 //! it was hard to read. Masks without such arrays were slower than none.
 
-use crate::declared::{Drive, Part, Ran, Record, Walked};
+use crate::declared::{Drive, Part, Place, Placed, Ran, Record, Walked};
 use crate::field::Fields;
 use std::ops::Range;
 
@@ -22,12 +22,28 @@ const IOPB: usize = 30;
 const WRITE_DATA: u8 = 1;
 const READ_DATA: u8 = 2;
 
+/// The sectors of every head but the last, on one cylinder.
+fn per_track(drive: Drive) -> u64 {
+    u64::from(drive.sector) + 1
+}
+
+fn per_cylinder(drive: Drive) -> u64 {
+    u64::from(drive.head) * per_track(drive) + u64::from(drive.last_sector) + 1
+}
+
 fn sectors(drive: Drive) -> u64 {
-    (u64::from(drive.cylinder) + 1) * (u64::from(drive.head) + 1) * (u64::from(drive.sector) + 1)
+    (u64::from(drive.cylinder) + 1) * per_cylinder(drive)
+}
+
+/// Whether the last head's maximum is not above the other.
+fn maxima_right(drive: Drive) -> bool {
+    drive.last_sector <= drive.sector
 }
 
 fn image_right(image: &[u8], drive: Drive) -> bool {
-    image.len() <= IMAGE_LIMIT && image.len() as u64 == SECTOR as u64 * sectors(drive)
+    maxima_right(drive)
+        && image.len() <= IMAGE_LIMIT
+        && image.len() as u64 == SECTOR as u64 * sectors(drive)
 }
 
 fn sizes_right(memory: &[u8], image: &[u8], drive: Drive, table: &[Record]) -> bool {
@@ -85,6 +101,15 @@ fn fields(b: &[u8; IOPB]) -> Fields {
     }
 }
 
+/// The maximum sector of a head.
+fn maximum_on(drive: Drive, head: u8) -> u8 {
+    if head == drive.head {
+        drive.last_sector
+    } else {
+        drive.sector
+    }
+}
+
 /// The code that a command will get; `first` is the number of its first sector.
 fn code(bounds: &Bounds, drive: Drive, f: &Fields, first: u64) -> u8 {
     if f.chen == 1 && f.next_address % 2 == 1 {
@@ -101,7 +126,7 @@ fn code(bounds: &Bounds, drive: Drive, f: &Fields, first: u64) -> u8 {
         0x10
     } else if f.head > drive.head {
         0x11
-    } else if f.sector > drive.sector {
+    } else if f.sector > maximum_on(drive, f.head) {
         0x12
     } else if !bounds.hold_sectors(first, f.count) {
         0x10
@@ -143,8 +168,9 @@ fn follow(memory: &[u8], start: u32, found: &mut [u32; MOST_COMMANDS]) -> Result
 fn record(memory: &[u8], bounds: &Bounds, drive: Drive, at: u32) -> Record {
     let bytes = iopb(memory, at).expect("the chain was followed through it");
     let f = fields(bytes);
-    let track = u64::from(f.cylinder) * (u64::from(drive.head) + 1) + u64::from(f.head);
-    let first = track * (u64::from(drive.sector) + 1) + u64::from(f.sector);
+    let first = u64::from(f.cylinder) * per_cylinder(drive)
+        + u64::from(f.head) * per_track(drive)
+        + u64::from(f.sector);
     Record {
         iopb: at,
         address: f.data_address,
@@ -414,6 +440,24 @@ pub fn look_part(image: &[u8], drive: Drive, sector: u32) -> Part {
         return Part { at: 0, length: 0 };
     }
     Part { at: SECTOR * sector as usize, length: SECTOR }
+}
+
+pub fn place(drive: Drive, sector: u32) -> Placed {
+    let nowhere = |number| Placed { place: Place::default(), number };
+    let sector = u64::from(sector);
+    if !maxima_right(drive) {
+        return nowhere(1);
+    }
+    if sector >= sectors(drive) {
+        return nowhere(10);
+    }
+    let on_cylinder = sector % per_cylinder(drive);
+    let place = Place {
+        cylinder: (sector / per_cylinder(drive)) as u16,
+        head: (on_cylinder / per_track(drive)) as u8,
+        sector: (on_cylinder % per_track(drive)) as u8,
+    };
+    Placed { place, number: 0 }
 }
 
 pub fn view_number(memory: &[u8], at: u32) -> u8 {

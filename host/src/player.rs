@@ -5,7 +5,7 @@
 use crate::archive;
 use crate::declared::{Ran, Record};
 use crate::field;
-use crate::translate::{drive_of, record_of, second_fields_of, second_record_of};
+use crate::translate::{drive_of, record_of, second_fields_of, second_place_of, second_record_of};
 use second::run::{PicksReply, WrittenReply};
 use second::trial::answer::Answer;
 use second::trial::line::{Line, TABLE_RECORDS};
@@ -60,6 +60,7 @@ impl Player {
             Line::Written(budget) => self.written(records, *budget),
             Line::Steps => self.steps(records),
             Line::Look(sector) => self.look(*sector as u32),
+            Line::Place(sector) => self.place(*sector as u32),
             Line::Fields(at) => self.fields(*at as u32),
             Line::View(at) => self.view(*at as u32),
             Line::Deck(_) => return Err("a deck is for the bench, and not for the archive".into()),
@@ -134,6 +135,11 @@ impl Player {
             number: archive::look_number(&board.image, drive, sector),
             part: archive::look(&board.image, drive, sector).to_vec(),
         }
+    }
+
+    fn place(&self, sector: u32) -> Answer {
+        let placed = archive::place(drive_of(&self.state.board.drive), sector);
+        Answer::Place { number: placed.number, place: second_place_of(&placed.place) }
     }
 
     /// The fields at any address. The archive's viewer takes even ones alone, so an odd one is

@@ -1,15 +1,36 @@
-//! The same things in the archive's words and in the second program's: drive, record, fields.
+//! The same things in the archive's words and in the second program's: drive, place, record, fields.
 
-use crate::declared::{Drive, Record};
+use crate::declared::{Drive, Place, Record};
 use crate::field::Fields;
 
 /// The archive's drive, from the second program's.
-pub fn drive_of(drive: &second::board::Drive) -> Drive {
+pub fn drive_of(drive: &second::drive::Drive) -> Drive {
     Drive {
         cylinder: drive.max_cylinder,
         head: drive.max_head,
         sector: drive.max_sector,
+        last_sector: drive.last_head_max_sector,
         protected: drive.protected,
+    }
+}
+
+/// The second program's drive, from the archive's.
+pub fn second_drive_of(drive: &Drive) -> second::drive::Drive {
+    second::drive::Drive {
+        max_cylinder: drive.cylinder,
+        max_head: drive.head,
+        max_sector: drive.sector,
+        last_head_max_sector: drive.last_sector,
+        protected: drive.protected,
+    }
+}
+
+/// The second program's place, from the archive's.
+pub fn second_place_of(place: &Place) -> second::place::Place {
+    second::place::Place {
+        cylinder: place.cylinder.into(),
+        head: place.head.into(),
+        sector: place.sector.into(),
     }
 }
 

@@ -60,7 +60,7 @@ fn a_deck_is_refused() {
 /// A run over a lent table: as by value with 32 records or more, refused with fewer.
 #[test]
 fn runs_over_a_lent_table() {
-    let ground = "case 1\ndrive 0 0 1 0\nmemory 1024 0 0\nimage 1024 7 1 0\n\
+    let ground = "case 1\ndrive 0 0 1 1 0\nmemory 1024 0 0\nimage 1024 7 1 0\n\
         put 0 34 0 0 0 0 0 0 0 0 1 0 0 0 1 0 0 0 0 2 0 0 0 0 32\n\
         put 32 1 0 0 0 0 0 0 0 0 1 0 0 0 0 0 0 0 0 2 0\nwalk 0\n";
     for call in ["picks 1 0 0", "written 1"] {
@@ -76,8 +76,32 @@ fn runs_over_a_lent_table() {
     }
 }
 
+/// Two cylinders with 3 sectors on head 0 and 2 on head 1, worked out by hand; then a last head that is
+/// too long.
+#[test]
+fn places_on_a_shorter_last_head() {
+    let asked = [0, 2, 3, 4, 5, 9, 10, u32::MAX].map(|sector| format!("place {sector}\n")).concat();
+    let given = by_archive(&format!("case 1\ndrive 1 1 2 1 0\n{asked}drive 1 1 2 3 0\nplace 0\n"));
+    let right = [
+        "case 1",
+        "place 0 0 0 0",
+        "place 0 0 0 2",
+        "place 0 0 1 0",
+        "place 0 0 1 1",
+        "place 0 1 0 0",
+        "place 0 1 1 1",
+        "place 10 0 0 0",
+        "place 10 0 0 0",
+        "place 1 0 0 0",
+    ];
+    assert_eq!(given.expect("cases").lines().collect::<Vec<_>>(), right);
+}
+
 #[test]
 fn a_line_outside_the_format_is_named() {
     let error = by_archive("case 1\nwalk 0\nwalks 0\n").expect_err("no line has the word walks");
     assert!(error.starts_with("line 3: "), "{error}");
+    // as it was before the last head had a maximum of its own
+    let error = by_archive("case 1\ndrive 0 0 1 0\n").expect_err("a drive has five numbers");
+    assert!(error.starts_with("line 2: "), "{error}");
 }

@@ -4,7 +4,7 @@
 
 mod reading;
 
-use host::declared::{Drive, Iopb, Part, Ran, Record, Walked};
+use host::declared::{Drive, Iopb, Part, Place, Placed, Ran, Record, Walked};
 use reading::{c_header, differences, rattle, rust, Declared};
 use std::mem::{align_of, offset_of, size_of};
 use std::path::{Path, PathBuf};
@@ -34,7 +34,7 @@ fn source() -> Declared {
 
 fn hold(name: &str, declared: &Declared) {
     let source = source();
-    assert!(source.functions.len() == 8 && source.structs.len() == 6, "the source was not read");
+    assert!(source.functions.len() == 9 && source.structs.len() == 8, "the source was not read");
     let found = differences(("the source", &source), (name, declared));
     assert!(found.is_empty(), "{name} is not what the source exports:\n{}", found.join("\n"));
 }
@@ -64,6 +64,12 @@ fn a_changed_declaration_is_found() {
         ("rosadenca_iopb rosadenca_view(", "rosadenca_iopb rosadenca_views("),
         ("uint64_t rosadenca_chain_steps(", "uint32_t rosadenca_chain_steps("),
         ("uint8_t unit; ", "uint8_t units; "),
+        ("    uint8_t last_sector;", ""),
+        ("rosadenca_disk_place place;", "rosadenca_part place;"),
+        (
+            "rosadenca_place(rosadenca_drive drive, uint32_t",
+            "rosadenca_place(rosadenca_drive drive, uint64_t",
+        ),
     ] {
         assert!(header.contains(old), "the header has no {old:?} to change");
         let changed = c_header::declared(&header.replacen(old, new, 1));
@@ -95,8 +101,18 @@ fn assertions() -> String {
         (cylinder, "cylinder"),
         (head, "head"),
         (sector, "sector"),
+        (last_sector, "last_sector"),
         (protected, "write_protected")
     );
+    layout!(
+        text,
+        Place,
+        "rosadenca_disk_place",
+        (cylinder, "cylinder"),
+        (head, "head"),
+        (sector, "sector")
+    );
+    layout!(text, Placed, "rosadenca_placed", (place, "place"), (number, "number"));
     layout!(
         text,
         Record,

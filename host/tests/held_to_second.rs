@@ -2,7 +2,7 @@
 //! and code comes up, and a board with a fault is found out.
 
 use host::boards::{Board, ARCHIVE, ORDINARY};
-use host::declared::Ran;
+use host::declared::{Drive, Place, Placed, Ran};
 use host::differ::counts::Counts;
 use host::differ::make::play_chain;
 
@@ -83,6 +83,75 @@ fn a_faulty_reply_is_found() {
                 let mut fields = (ORDINARY.view)(memory, at);
                 fields.unit &= 3;
                 fields
+            },
+            ..ORDINARY
+        },
+    );
+}
+
+/// A last head taken for one like the others, in one thing alone.
+#[test]
+fn a_last_head_taken_for_another_is_found() {
+    fn equal(drive: Drive) -> Drive {
+        Drive { last_sector: drive.sector, ..drive }
+    }
+    must_be_found(
+        "tests a sector of the last head against the other maximum",
+        Board {
+            walk: |memory, image, drive, start, table| {
+                let walked = (ORDINARY.walk)(memory, image, drive, start, table);
+                for record in &mut table[..walked.commands] {
+                    let sector = (ORDINARY.view)(memory, record.iopb).sector;
+                    if record.code == 0x12 && sector <= drive.sector {
+                        record.code = 0;
+                    }
+                }
+                walked
+            },
+            ..ORDINARY
+        },
+    );
+    must_be_found(
+        "gives the place that equal heads would have",
+        Board { place: |drive, sector| (ORDINARY.place)(equal(drive), sector), ..ORDINARY },
+    );
+    must_be_found(
+        "looks at a drive whose last head is longer than the others",
+        Board {
+            look_number: |image, drive, sector| {
+                let number = (ORDINARY.look_number)(image, drive, sector);
+                if number == 1 && drive.last_sector > drive.sector && sector == 0 {
+                    return 0;
+                }
+                number
+            },
+            ..ORDINARY
+        },
+    );
+}
+
+#[test]
+fn a_faulty_place_is_found() {
+    must_be_found(
+        "gives the last place for a number past it",
+        Board {
+            place: |drive, sector| {
+                let placed = (ORDINARY.place)(drive, sector);
+                let Drive { cylinder, head, last_sector, .. } = drive;
+                let last = Place { cylinder, head, sector: last_sector };
+                let place = if placed.number == 10 { last } else { placed.place };
+                Placed { place, ..placed }
+            },
+            ..ORDINARY
+        },
+    );
+    must_be_found(
+        "asks for the number before it asks for the last head",
+        Board {
+            place: |drive, sector| {
+                let Placed { place, number } = (ORDINARY.place)(drive, sector);
+                let past = sector == u32::MAX && number == 1;
+                Placed { place, number: if past { 10 } else { number } }
             },
             ..ORDINARY
         },

@@ -1,7 +1,8 @@
 //! The bench program: a deck in, its lines out. It has a board of its own,
 //! made afresh for every deck.
 
-use crate::board::{Board, Drive, SECTOR_BYTES};
+use crate::board::{Board, SECTOR_BYTES};
+use crate::drive::Drive;
 use crate::record::{Record, MOST_COMMANDS};
 use crate::run::run_written;
 use crate::walk::walk;
@@ -40,9 +41,9 @@ impl BenchReply {
     }
 }
 
-/// The drive of the bench: maxima 1, 1 and 7.
+/// The drive of the bench: maxima 1, 1 and 7, the last head like the other.
 pub fn bench_drive(protected: bool) -> Drive {
-    Drive { max_cylinder: 1, max_head: 1, max_sector: 7, protected }
+    Drive { protected, ..Drive::with_equal_heads(1, 1, 7) }
 }
 
 /// The board of the bench before any deck: zero memory, sector n full of n.

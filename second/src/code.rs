@@ -41,7 +41,8 @@ fn transfer_code(board: &Board, fields: &Fields) -> u8 {
     if fields.head > u64::from(drive.max_head) {
         return 0x11;
     }
-    if fields.sector > u64::from(drive.max_sector) {
+    // The maximum is that of the head itself: the last may have its own.
+    if fields.sector > drive.max_sector_of(fields.head) {
         return 0x12;
     }
     let first = drive.sector_number(fields.cylinder, fields.head, fields.sector);

@@ -1,7 +1,8 @@
 //! Random chains against what document 01 demands of any order of steps:
 //! whatever is picked, the rest done as written ends as the whole chain does.
 
-use second::board::{Board, Drive};
+use second::board::Board;
+use second::drive::Drive;
 use second::makers::chain::random_chain;
 use second::makers::rng::Rng;
 use second::pick::pick;
@@ -21,10 +22,12 @@ struct Walked {
 }
 
 fn random_board(rng: &mut Rng) -> Board {
+    let max_sector = rng.below(6);
     let drive = Drive {
         max_cylinder: rng.below(4) as u16,
         max_head: rng.below(3) as u8,
-        max_sector: rng.below(6) as u8,
+        max_sector: max_sector as u8,
+        last_head_max_sector: rng.between(0, max_sector) as u8,
         protected: rng.percent(8),
     };
     let image = rng.bytes(512 * drive.number_of_sectors());
@@ -118,10 +121,10 @@ fn refused_calls_change_no_byte() {
         let Walked { mut board, mut table, commands } = next_chain(&mut rng);
         let list = random_picks(&mut rng, commands);
         run_picks(&mut board, &mut table, commands, &list[..list.len() / 2]);
-        if rng.percent(50) {
-            table[rng.below(commands) as usize].taken = u32::MAX;
-        } else {
-            board.drive.max_cylinder += 1;
+        match rng.below(3) {
+            0 => table[rng.below(commands) as usize].taken = u32::MAX,
+            1 => board.drive.max_cylinder += 1,
+            _ => board.drive.last_head_max_sector = board.drive.max_sector + 1,
         }
         let before = (board.clone(), table);
         assert_ne!(pick(&mut board, &mut table, commands, 0), 0);

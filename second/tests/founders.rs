@@ -2,7 +2,8 @@
 //! line of number 9, with the numbers written by hand.
 
 use second::bench::bench_board;
-use second::board::{Board, Drive};
+use second::board::Board;
+use second::drive::Drive;
 use second::iopb::{fields_at, view};
 use second::look::{look, look_number};
 use second::makers::block::Block;
@@ -152,9 +153,9 @@ fn number_nine_for_the_number_of_commands() {
 #[test]
 fn sizes_on_both_sides() {
     let small = Drive::default();
-    let largest = Drive { max_cylinder: 255, max_head: 7, max_sector: 15, protected: false };
-    let past = Drive { max_cylinder: 330, max_head: 10, max_sector: 8, protected: false };
-    let huge = Drive { max_cylinder: 65_535, max_head: 255, max_sector: 255, protected: false };
+    let largest = Drive::with_equal_heads(255, 7, 15);
+    let past = Drive::with_equal_heads(330, 10, 8);
+    let huge = Drive::with_equal_heads(65_535, 255, 255);
     for (memory, image, drive, number) in [
         (65_536, 512, small, 0),
         (65_537, 512, small, 1),

@@ -49,8 +49,16 @@ fn lines_outside_the_format_are_refused() {
         "memory 1 256 0",
         "put 0",
         "image 16778241 0 0 0",
-        "drive 65536 0 0 0",
-        "drive 0 0 0 2",
+        "drive 65536 0 0 0 0",
+        "drive 0 256 0 0 0",
+        "drive 0 0 256 0 0",
+        "drive 0 0 0 256 0",
+        "drive 0 0 0 0 2",
+        "drive 0 0 0 0",
+        "drive 0 0 0 0 0 0",
+        "place",
+        "place 1 2",
+        "place 4294967296",
         "record 40 0 0 0 0 0 0 0",
         "record 0 0 0 0 0 0 0",
         "spoil 0 7 0",
@@ -95,7 +103,7 @@ fn nothing_counted_stays_at_zero() {
 /// The worked case of docs/CASES.md. Its digests were worked out apart from
 /// this program.
 const WORKED_CASE: &str = "case 1
-drive 0 0 1 0
+drive 0 0 1 1 0
 memory 1024 0 0
 image 1024 7 1 0
 put 0 34 0 0 0 0 0 0 0 0 1 0 0 0 1 0 0 0 0 2 0 0 0 0 32

@@ -19,6 +19,7 @@ void inner_rosadenca_run_written(rosadenca_ran *, const run *, const run *, cons
                                  uint64_t);
 void inner_rosadenca_look(rosadenca_part *, const run *, const rosadenca_drive *, uint32_t);
 uint32_t inner_rosadenca_look_number(const run *, const rosadenca_drive *, uint32_t);
+void inner_rosadenca_place(rosadenca_placed *, const rosadenca_drive *, uint32_t);
 void inner_rosadenca_view(rosadenca_iopb *, const run *, uint32_t);
 uint64_t inner_rosadenca_chain_steps(const run *, size_t);
 
@@ -69,6 +70,13 @@ rosadenca_part rosadenca_look(const uint8_t *image, size_t image_length, rosaden
     rosadenca_part part;
     inner_rosadenca_look(&part, &(run){image, image_length}, &drive, sector);
     return part;
+}
+
+rosadenca_placed rosadenca_place(rosadenca_drive drive, uint32_t sector)
+{
+    rosadenca_placed placed;
+    inner_rosadenca_place(&placed, &drive, sector);
+    return placed;
 }
 
 rosadenca_iopb rosadenca_view(const uint8_t *memory, size_t memory_length, uint32_t at)

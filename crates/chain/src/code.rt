@@ -7,7 +7,7 @@ ghost use Prim.Native.Nat.{_+_, _*_};
 ghost use mathlib.Core.Bool.{not, _&&_, _||_};
 ghost use lib.Dec.{ltb, eqb};
 ghost use Rattle.meaning.specs.First.{firstOf};
-ghost use Rattle.meaning.specs.Sectors.{sectorBytes, sectorCount};
+ghost use Rattle.meaning.specs.Sectors.{sectorBytes, maximumOn, sectorCount};
 ghost use Rattle.meaning.specs.Code.{copiedAt, codeOf, transferRows, chained, odd, gathers, commandIn, read, write, firstSector};
 
 // The fields of an IOPB that the walk keeps.
@@ -70,6 +70,13 @@ pub(crate) fn first_sector(c: Copied, d: Drive) -> u32
     drive::sector_number(d, c.cylinder, c.head, c.sector)
 }
 
+// The sector is above the maximum of its own head.
+fn sector_above(c: Copied, d: Drive) -> bool
+    ensures { λ r. ⌜ r ≡ ltb (maximumOn d (c .head)) (c .sector) ⌝ }
+{
+    drive::maximum_on(d, c.head) < c.sector
+}
+
 // The first sector number + count is more than the drive has.
 fn past_drive(c: Copied, d: Drive) -> bool
     ensures { λ r. ⌜ r ≡ ltb (sectorCount d) (firstSector d c + c .count) ⌝ }
@@ -108,7 +115,7 @@ fn transfer_code(c: Copied, d: Drive, memory: u64) -> u8
     if d.head < c.head {
         return 0x11;
     }
-    if d.sector < c.sector {
+    if sector_above(c, d) {
         return 0x12;
     }
     if past_drive(c, d) {

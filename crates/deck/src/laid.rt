@@ -66,7 +66,7 @@ fn protects(bytes: &[u8]) -> bool
     bytes[31] == 1
 }
 
-// The drive of the bench: maxima 1, 1 and 7, and protected where byte 31 of the first record says so.
+// The drive of the bench: maxima 1, 1 and 7, the last head's too, and protected where byte 31 of the first record says so.
 pub fn bench_drive(bytes: &[u8]) -> Drive
     ensures { λ r. ⌜ r ≡ deck.benchDrive (now (bytes .entry)) ⌝ }
 {
@@ -74,6 +74,7 @@ pub fn bench_drive(bytes: &[u8]) -> Drive
         cylinder: 1,
         head: 1,
         sector: 7,
+        last_sector: 7,
         protected: protects(bytes),
     }
 }

@@ -1,14 +1,19 @@
-// The drive: its maxima and counts, the number of a sector, the size that its image must have, and a look at one sector.
+// The drive: its maxima and counts, the number of a sector and the place of a number, the size that its image must have, and a look at one
+// sector.
 // A largest number (counted from zero) and a number of things are two types, so that one is never taken for the other.
 use meaning::Count;
 use meaning::Drive;
 use meaning::Maximum;
+use meaning::Place;
+use meaning::Placed;
 ghost use mathlib.Core.Path.{_≡_};
-ghost use Prim.Native.Nat.{_+_, _≤_};
+ghost use Prim.Native.Nat.{_+_, _≤_, _<_};
+ghost use mathlib.Core.Bool.{true};
 ghost use mathlib.Core.List.{[]};
 ghost use lib.Dec.{ltb};
 ghost use Rattle.meaning.specs.Store.{lent};
-ghost use Rattle.meaning.specs.Sectors.{sectorCount, largestSector, sectorNumber, imageRight};
+ghost use Rattle.meaning.specs.Sectors.{maximumOn, perCylinder, sectorCount, largestSector, sectorNumber, maximaRight, imageRight};
+ghost use Rattle.meaning.specs.Place.{placeOf, placed};
 ghost use Rattle.meaning.specs.Look.{lookNumber, lookedPart, IsPart};
 
 // The bytes of a sector, and the most that an image may have.
@@ -16,15 +21,40 @@ pub const SECTOR_BYTES: u64 = 512;
 
 pub const IMAGE_LIMIT: u64 = 16_777_216;
 
-// How many sectors the drive has. 65,536 cylinders of 256 heads of 256 sectors are 2 to the 32: they fit.
+// The maximum sector of a head: the last head of a cylinder has its own.
+pub fn maximum_on(d: Drive, head: u8) -> u8
+    ensures { λ r. ⌜ r ≡ maximumOn d head ⌝ }
+{
+    if head == d.head {
+        return d.last_sector;
+    }
+    d.sector
+}
+
+// Whether a drive can be: its last head has no more sectors than the others.
+pub fn maxima_right(d: Drive) -> bool
+    ensures { λ r. ⌜ r ≡ maximaRight d ⌝ }
+{
+    d.last_sector <= d.sector
+}
+
+// How many sectors a cylinder has: a whole track for each head before the last, and the last head's.
+pub fn per_cylinder(d: Drive) -> u32
+    ensures { λ r. ⌜ r ≡ perCylinder d ⌝ }
+    ensures within { λ r. ⌜ (1 ≤ r) × (r ≤ 65_536) ⌝ }
+{
+    let on_track = d.sector as u32 + 1;
+    let on_last_head = d.last_sector as u32 + 1;
+    d.head as u32 * on_track + on_last_head
+}
+
+// How many sectors the drive has. 65,536 cylinders of at most 65,536 sectors are at most 2 to the 32: they fit.
 pub fn sectors(d: Drive) -> Count
     ensures { λ r. ⌜ r .0 ≡ sectorCount d ⌝ }
     ensures within { λ r. ⌜ (1 ≤ r .0) × (r .0 ≤ 4_294_967_296) ⌝ }
 {
     let cylinders = d.cylinder as u64 + 1;
-    let heads = d.head as u64 + 1;
-    let per_track = d.sector as u64 + 1;
-    Count(cylinders * heads * per_track)
+    Count(cylinders * per_cylinder(d) as u64)
 }
 
 // The largest sector number of the drive.
@@ -53,15 +83,61 @@ pub fn past_end(count: Count, first: u32, sectors: u16) -> bool
 pub fn sector_number(d: Drive, cylinder: u16, head: u8, sector: u8) -> u32
     ensures { λ r. ⌜ r ≡ sectorNumber d cylinder head sector ⌝ }
 {
-    let heads = d.head as u32 + 1;
-    let per_track = d.sector as u32 + 1;
-    cylinder as u32 * heads * per_track + head as u32 * per_track + sector as u32
+    let on_cylinder = per_cylinder(d);
+    let on_track = d.sector as u32 + 1;
+    cylinder as u32 * on_cylinder + head as u32 * on_track + sector as u32
 }
 
-// Whether an image of so many bytes is within its limit and has the drive's size.
+// The place of a number that the drive has: its whole cylinders, then the whole tracks of what is left, then the sectors of what is left then.
+fn place_at(d: Drive, sector: u32) -> Place
+    requires { ⌜ (maximaRight d ≡ true) × (sector < sectorCount d) ⌝ }
+    ensures { λ r. ⌜ r ≡ placeOf d sector ⌝ }
+{
+    let on_cylinder = per_cylinder(d);
+    let on_track = d.sector as u32 + 1;
+    let rest = sector % on_cylinder;
+    Place {
+        cylinder: (sector / on_cylinder) as u16,
+        head: (rest / on_track) as u8,
+        sector: (rest % on_track) as u8,
+    }
+}
+
+// The place of a number: 1 for a drive that cannot be, then 10 for a number that the drive has not, otherwise 0; with a number other than 0
+// the place is 0, 0, 0.
+pub fn place_of(d: Drive, sector: u32) -> Placed
+    ensures { λ r. ⌜ r ≡ placed d sector ⌝ }
+{
+    let nowhere = Place {
+        cylinder: 0,
+        head: 0,
+        sector: 0,
+    };
+    if !maxima_right(d) {
+        return Placed {
+            place: nowhere,
+            number: 1,
+        };
+    }
+    if above(largest(d), sector) {
+        return Placed {
+            place: nowhere,
+            number: 10,
+        };
+    }
+    Placed {
+        place: place_at(d, sector),
+        number: 0,
+    }
+}
+
+// Whether the drive can be, and an image of so many bytes is within its limit and has the drive's size.
 pub fn image_right(d: Drive, bytes: u64) -> bool
     ensures { λ r. ⌜ r ≡ imageRight d bytes ⌝ }
 {
+    if !maxima_right(d) {
+        return false;
+    }
     if IMAGE_LIMIT < bytes {
         return false;
     }

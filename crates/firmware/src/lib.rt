@@ -2,5 +2,6 @@
 // a table of at least 32 records, and refuses by the numbers of the rules. include/rosadenca.h declares them for C.
 pub mod laid;
 pub mod look;
+pub mod place;
 pub mod table;
 pub mod view;

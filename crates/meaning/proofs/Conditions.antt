@@ -5,29 +5,35 @@ use mathlib.Core.Logic.{_⊎_, inl, inr}
 use Prim.Native.Nat.{ℕ, _+_, _*_, _≤_, _<_}
 use native.Mathlib.Nat.{one-le-mul}
 use native.Mathlib.Omega.{arith}
-use mathlib.Core.Bool.{Bool, true, false, not, _||_, or-assoc}
+use mathlib.Core.Bool.{Bool, true, false, not, _&&_, _||_, or-assoc}
 use lib.ListN.{length}
 use lib.Dec.{ltb, leb, eqb}
 use Rattle.meaning.specs.declared.Drive.{Drive}
 use Rattle.meaning.specs.declared.Record.{Record}
 use Rattle.meaning.specs.Store.{memory, Store, theDisk}
 use Rattle.meaning.specs.State.{State, mostCommands}
-use Rattle.meaning.specs.Sectors.{sectorBytes, imageLimit, sectorCount, imageRight}
+use Rattle.meaning.specs.Sectors.{sectorBytes, imageLimit, perCylinder, sectorCount, maximaRight, imageRight}
 use Rattle.meaning.specs.Fields.{iopbBytes}
 use Rattle.meaning.specs.Sizes.{memoryLimit, storeWrong, sizesWrong}
 use Rattle.meaning.specs.Code.{commandIn, read, write}
 use Rattle.meaning.specs.Command.{reads, writes, transfers, stepsOf, finished, noRecord}
 use Rattle.meaning.specs.Pick.{badTransfer, badRecord, spoiled}
-use Rattle.meaning.specs.Conditions.{ImageWrong, StoreWrong, SizesWrong, Reads, Writes, Finished, BadTransfer, BadRecord, Spoiled}
+use Rattle.meaning.specs.Conditions.{MaximaWrong, ImageWrong, StoreWrong, SizesWrong, Reads, Writes, Finished, BadTransfer, BadRecord, Spoiled}
 use Rattle.meaning.proofs.Means.{Means, holds, fails, when-true, when-false, is-true, means-itself, means-and, means-or, means-or₃, means-not-and, means-above, means-other, means-lt, means-le, means-eq, means-some}
 
 -- ---- sizes
+
+pub means-maxima : (d : Drive) → Means (MaximaWrong d) (not (maximaRight d))
+unfolding maximaRight
+means-maxima d = means-above (d .«last_sector») (d .sector)
 
 pub means-image : (d : Drive) (s : Store) → Means (ImageWrong d s) (not (imageRight d (length (s theDisk))))
 unfolding imageRight
 means-image d s =
     let n = length (s theDisk) in
-    means-not-and (leb n imageLimit) (eqb n (sectorBytes * sectorCount d)) (means-above n imageLimit) (means-other n (sectorBytes * sectorCount d))
+    let size = sectorBytes * sectorCount d in
+    means-not-and (maximaRight d) (leb n imageLimit && eqb n size) (means-maxima d)
+    (means-not-and (leb n imageLimit) (eqb n size) (means-above n imageLimit) (means-other n size))
 
 pub means-store : (d : Drive) (s : Store) → Means (StoreWrong d s) (storeWrong d s)
 unfolding storeWrong
@@ -43,11 +49,11 @@ image-size d s right = go (means-eq (length (s theDisk)) (sectorBytes * sectorCo
   where
     go : {b : Bool} → Means (length (s theDisk) ≡ sectorBytes * sectorCount d) b → length (s theDisk) ≡ sectorBytes * sectorCount d
     go (holds e) = e
-    go (fails n) = absurd (right (inr n))
+    go (fails n) = absurd (right (inr (inr n)))
 
 pub some-sector : (d : Drive) → 1 ≤ sectorCount d
-unfolding sectorCount
-some-sector d = one-le-mul (one-le-mul (omega arith) (omega arith)) (omega arith)
+unfolding sectorCount perCylinder
+some-sector d = one-le-mul (omega arith) (omega arith)
 
 -- sizes that are right
 pub record RightStore (d : Drive) (s : Store) : Type 0 where

@@ -8,6 +8,7 @@ pub mod Tests
 pub mod Overwrite
 pub mod Spaces
 pub mod Places
+pub mod Numbering
 pub mod Means
 pub mod Table
 pub mod Ranges

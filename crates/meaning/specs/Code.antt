@@ -6,7 +6,7 @@ use lib.Dec.{ltb, eqb}
 use Rattle.meaning.specs.First.{Row, firstOf, _↝_}
 use Rattle.meaning.specs.declared.Drive.{Drive}
 use Rattle.meaning.specs.Store.{theUnit}
-use Rattle.meaning.specs.Sectors.{sectorBytes, sectorCount, sectorNumber}
+use Rattle.meaning.specs.Sectors.{sectorBytes, maximumOn, sectorCount, sectorNumber}
 use Rattle.meaning.specs.Fields as iopb
 use Rattle.meaning.specs.declared.Copied.{Copied}
 
@@ -70,10 +70,10 @@ transferRows c d n =
     not (eqb (c .unit) theUnit) ↝ 0x42
     -- Code 5: no sector is asked for
     ∷ eqb (c .count) 0 ↝ 0x13
-    -- Code 6 to 8: cylinder, then head, then sector above its maximum
+    -- Code 6 to 8: cylinder, then head, then sector above its maximum, the sector above that of its own head
     ∷ ltb (d .cylinder) (c .cylinder) ↝ 0x10
     ∷ ltb (d .head) (c .head) ↝ 0x11
-    ∷ ltb (d .sector) (c .sector) ↝ 0x12
+    ∷ ltb (maximumOn d (c .head)) (c .sector) ↝ 0x12
     -- Code 9: the sectors go past the end of the drive
     ∷ ltb (sectorCount d) (firstSector d c + c .count) ↝ 0x10
     -- Code 10: a Write Data on a protected drive

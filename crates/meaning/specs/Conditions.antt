@@ -37,9 +37,13 @@ OverlapIsSharing = (r s : Range) → (overlap r s ≡ true) ↔ ((p : Space) × 
 abbrev pub Shares : ℕ → ℕ → Type 0
 Shares a b = (x : ℕ) × Within x a iopbBytes × Within x b iopbBytes
 
--- an image over its limit, or not of the drive's size
+-- a drive whose last head has more sectors than the others
+abbrev pub MaximaWrong : Drive → Type 0
+MaximaWrong d = d .sector < d .«last_sector»
+
+-- such a drive, or an image over its limit, or not of the drive's size
 abbrev pub ImageWrong : Drive → Store → Type 0
-ImageWrong d s = (imageLimit < length (s theDisk)) ⊎ (length (s theDisk) ≢ sectorBytes * sectorCount d)
+ImageWrong d s = MaximaWrong d ⊎ (imageLimit < length (s theDisk)) ⊎ (length (s theDisk) ≢ sectorBytes * sectorCount d)
 
 -- memory over its limit, or such an image
 abbrev pub StoreWrong : Drive → Store → Type 0

@@ -37,9 +37,9 @@ isDeck b =
     && leb (recordCount b) mostRecords
     && everyOf (fillersRight b) (upTo (recordCount b))
 
--- Bench 3 and 6: maxima 1, 1 and 7, and byte 31 of the first record protects it
+-- Bench 3 and 6: maxima 1, 1 and 7, the last head's 7 too, and byte 31 of the first record protects it
 unfoldable pub benchDrive : List ℕ → Drive
-benchDrive b = record { cylinder = 1; head = 1; sector = 7; protected = eqb (byteIn b 0 31) 1 }
+benchDrive b = record { cylinder = 1; head = 1; sector = 7; «last_sector» = 7; protected = eqb (byteIn b 0 31) 1 }
 
 -- Bench 5: zeros, with the IOPB of record k at 32 x k
 abbrev pub memoryBytes : ℕ

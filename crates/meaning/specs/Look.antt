@@ -12,7 +12,7 @@ use Rattle.meaning.specs.declared.Part.{Part}
 use Rattle.meaning.specs.Store.{Store, theUnit, theDisk, get}
 use Rattle.meaning.specs.Sectors.{largestSector, onDisk, imageRight}
 
--- 1 for an image over its limit or not of the drive's size, then 10 where there is no such sector, otherwise 0 (Look 4 to 6)
+-- 1 for an image over its limit or not of the drive's size, or a drive that cannot be, then 10 where there is no such sector, otherwise 0 (Look 4 to 6)
 unfoldable pub lookNumber : Drive → ℕ → Store → ℕ
 lookNumber d n s =
     firstOf

@@ -1,4 +1,4 @@
--- Number 1 of every call: sizes that are wrong (Size 1 to 4).
+-- Number 1 of every call: sizes that are wrong (Size 1 to 5).
 use Prim.Native.Nat.{ℕ}
 use mathlib.Core.Bool.{Bool, not, _||_}
 use lib.ListN.{length}
@@ -12,7 +12,7 @@ use Rattle.meaning.specs.Sectors.{imageRight}
 abbrev pub memoryLimit : ℕ
 memoryLimit = 65_536
 
--- memory over its limit, or an image over its limit or not of the drive's size
+-- memory over its limit, or an image over its limit or not of the drive's size, or a drive that cannot be
 unfoldable pub storeWrong : Drive → Store → Bool
 storeWrong d s = ltb memoryLimit (length (s memory)) || not (imageRight d (length (s theDisk)))
 

@@ -6,7 +6,7 @@ use Prim.Native.Nat.{ℕ}
 use mathlib.Core.List.{List, [], _∷_, _++_, map}
 use lib.ListN.{length, getD, set, replicate}
 use Rattle.meaning.specs.declared.Record.{Record}
-use Rattle.meaning.specs.Sectors.{sectorCount, sectorNumber, imageRight}
+use Rattle.meaning.specs.Sectors.{maximumOn, perCylinder, sectorCount, sectorNumber, maximaRight, imageRight}
 use Rattle.meaning.specs.Fields.{byteOf}
 use Rattle.meaning.specs.Ranges.{crosses}
 use Rattle.meaning.specs.State.{stateOf}
@@ -121,7 +121,7 @@ rows =
     ∷ []
 
 pub starred-rows : Answered rows
-unfolding byteOf copiedAt codeOf recordOf chainAt sizesWrong imageRight sectorCount sectorNumber benchMemory benchImage benchDrive pickNumber conflict crosses stepsOf finished
+unfolding byteOf copiedAt codeOf recordOf chainAt sizesWrong maximaRight imageRight maximumOn perCylinder sectorCount sectorNumber benchMemory benchImage benchDrive pickNumber conflict crosses stepsOf finished
 starred-rows = refl
 
 -- ---- ours
@@ -175,5 +175,5 @@ ours =
     ∷ []
 
 pub our-rows : Answered ours
-unfolding byteOf copiedAt codeOf recordOf chainAt sizesWrong imageRight sectorCount sectorNumber benchMemory benchImage benchDrive pickNumber conflict crosses stepsOf finished closing runNumber
+unfolding byteOf copiedAt codeOf recordOf chainAt sizesWrong maximaRight imageRight maximumOn perCylinder sectorCount sectorNumber benchMemory benchImage benchDrive pickNumber conflict crosses stepsOf finished closing runNumber
 our-rows = refl

@@ -7,13 +7,31 @@ pub struct Maximum(pub u32);
 // How many there are of a kind.
 pub struct Count(pub u64);
 
-// A drive: its maximum cylinder, head and sector, each counted from zero, and its write-protect mark.
+// A drive: its maximum cylinder, head and sector, and the maximum sector of its last head, each counted from zero; and its write-protect
+// mark.
 #[repr(C)]
 pub struct Drive {
     pub cylinder: u16,
     pub head: u8,
+    // of every head but the last of a cylinder
     pub sector: u8,
+    pub last_sector: u8,
     pub protected: bool,
+}
+
+// A place on a drive.
+#[repr(C)]
+pub struct Place {
+    pub cylinder: u16,
+    pub head: u8,
+    pub sector: u8,
+}
+
+// What the call for the place of a number answers: the place, and the call's number.
+#[repr(C)]
+pub struct Placed {
+    pub place: Place,
+    pub number: u8,
 }
 
 // What the walk copies from an IOPB before anything moves.

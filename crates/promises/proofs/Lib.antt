@@ -6,6 +6,7 @@ pub mod WalkFills
 pub mod Numbers
 pub mod EachNumber
 pub mod Looks
+pub mod Numbering
 pub mod Views
 pub mod Refused
 -- demand 2: what one step moves, and what many do

@@ -1,9 +1,10 @@
 -- The numbers of picks, runs, looks and viewers, and the codes, are given exactly when their tables say: the one law of tables, applied to
 -- each.
 use mathlib.Core.Path.{_≡_}
-use mathlib.Core.Logic.{_↔_}
-use Prim.Native.Nat.{ℕ, _+_, _*_, _%_, _≤_}
+use mathlib.Core.Logic.{_↔_, inl, inr}
+use Prim.Native.Nat.{ℕ, _+_, _*_, _%_, _≤_, _<_}
 use native.Mathlib.Omega.{arith}
+use mathlib.Core.Bool.{Bool, cond}
 use mathlib.Core.List.{List}
 use lib.ListN.{length, getD}
 use lib.Dec.{ltb}
@@ -11,7 +12,7 @@ use Rattle.meaning.specs.declared.Drive.{Drive}
 use Rattle.meaning.specs.declared.Copied.{Copied}
 use Rattle.meaning.specs.Store.{Store, theUnit}
 use Rattle.meaning.specs.State.{State}
-use Rattle.meaning.specs.Sectors.{sectorBytes, sectorCount, largestSector}
+use Rattle.meaning.specs.Sectors.{sectorBytes, maximumOn, sectorCount, largestSector}
 use Rattle.meaning.specs.Fields.{iopbBytes, bit}
 use Rattle.meaning.specs.Look.{lookNumber}
 use Rattle.meaning.specs.View.{madeNumber, viewOf}
@@ -20,14 +21,14 @@ use Rattle.meaning.specs.Command.{noRecord}
 use Rattle.meaning.specs.Pick.{placeNumber, pickNumber, PickGives}
 use Rattle.meaning.specs.Run.{runNumber, runReply, RunGives}
 use Rattle.meaning.specs.Table.{Given}
-use Rattle.meaning.proofs.Means.{Means, when-true, is-true, means-iff, means-itself, means-and, means-or₃, means-lt, means-le, means-above, means-eq, means-other}
+use Rattle.meaning.proofs.Means.{Means, holds, fails, when-true, is-true, means-iff, means-itself, means-and, means-or₃, means-lt, means-le, means-above, means-eq, means-other}
 use Rattle.meaning.proofs.Table.{otherwise, _&_, by-number, by-place}
 use Rattle.meaning.proofs.Conditions.{some-sector, means-image, means-sizes, means-finished, means-spoiled}
 use Rattle.meaning.proofs.Conflict.{means-conflict, means-waits}
 use Rattle.promises.specs.PickNumbers.{pickTable, runTable, PickExactlyWhen, RunExactlyWhen, ConflictExactlyWhen}
 use Rattle.promises.specs.Looks.{LookExactlyWhen}
 use Rattle.promises.specs.Views.{viewTable, ViewExactlyWhen}
-use Rattle.promises.specs.Codes.{CodeExactlyWhen}
+use Rattle.promises.specs.Codes.{SectorAbove, CodeExactlyWhen}
 
 -- ---- picks and runs
 
@@ -62,7 +63,7 @@ conflict-exactly-when r s = (when-true (means-conflict r s), is-true (means-conf
 -- ---- looks and viewers
 
 -- a largest sector number is one less than the number of sectors, of which there is one at least
-no-such-sector : (d : Drive) (n : ℕ) → Means (sectorCount d ≤ n) (ltb (largestSector d) n)
+pub no-such-sector : (d : Drive) (n : ℕ) → Means (sectorCount d ≤ n) (ltb (largestSector d) n)
 unfolding largestSector
 no-such-sector d n = let z = some-sector d in means-iff (omega arith) (means-lt (largestSector d) n)
 
@@ -80,6 +81,22 @@ view-exactly-when m a N = (view-number-exactly-when m a N, λ v e. rw e (view-nu
 
 -- ---- codes
 
+means-sector-above : (d : Drive) (c : Copied) → Means (SectorAbove d c) (ltb (maximumOn d (c .head)) (c .sector))
+unfolding maximumOn
+means-sector-above d c = go (means-eq (c .head) (d .head))
+  where
+    go : {b : Bool} → Means (c .head ≡ d .head) b → Means (SectorAbove d c) (ltb (cond b (d .«last_sector») (d .sector)) (c .sector))
+    go (holds e) = means-iff ((λ l. inl (e, l)), above) (means-lt (d .«last_sector») (c .sector))
+      where
+        above : SectorAbove d c → d .«last_sector» < c .sector
+        above (inl l) = l .1
+        above (inr l) = absurd (l .0 e)
+    go (fails n) = means-iff ((λ l. inr (n, l)), above) (means-lt (d .sector) (c .sector))
+      where
+        above : SectorAbove d c → d .sector < c .sector
+        above (inl l) = absurd (n (l .0))
+        above (inr l) = l .1
+
 pub code-exactly-when : (c : Copied) (d : Drive) (n code : ℕ) → CodeExactlyWhen c d n code
 unfolding codeOf
 code-exactly-when c d n =
@@ -91,7 +108,7 @@ code-exactly-when c d n =
     & means-eq (c .count) 0
     & means-lt (d .cylinder) (c .cylinder)
     & means-lt (d .head) (c .head)
-    & means-lt (d .sector) (c .sector)
+    & means-sector-above d c
     & means-lt (sectorCount d) (firstSector d c + c .count)
     & means-and (means-eq (commandIn (c .byte0)) write) (means-itself (d .protected))
     & means-lt n (c .address + sectorBytes * c .count)

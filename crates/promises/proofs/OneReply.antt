@@ -12,6 +12,7 @@ use Rattle.meaning.specs.OneReply.{OneReply}
 use Rattle.meaning.specs.Store.{memory, theDisk, lent}
 use Rattle.meaning.specs.State.{State, stateOf}
 use Rattle.meaning.specs.Look.{lookNumber, lookPart, lookedPart}
+use Rattle.meaning.specs.Place.{placed}
 use Rattle.meaning.specs.View.{madeNumber, viewOf}
 use Rattle.meaning.specs.Walk.{WalkGives}
 use Rattle.meaning.specs.Pick.{pickNumber, stepAt, picked, PickGives}
@@ -77,6 +78,7 @@ each-has-one-reply =
       look = λ d n s. one-equation (lookPart d n s);
       looked-part = λ d n s. one-equation (lookedPart d n s);
       look-number = λ d n s. one-equation (lookNumber d n s);
+      place = λ d n. one-equation (placed d n);
       view = λ m a. one-equation (viewOf m a);
       view-number = λ m a. one-equation (madeNumber m a);
     }

@@ -30,6 +30,10 @@ commandTable c =
     ∷ (commandIn (c .byte0) ≡ nop) ⇒ 0x00
     ∷ []
 
+-- the sector is above the maximum of its own head: the last head of a cylinder has its own
+abbrev pub SectorAbove : Drive → Copied → Type 0
+SectorAbove d c = ((c .head ≡ d .head) × (d .«last_sector» < c .sector)) ⊎ ((c .head ≢ d .head) × (d .sector < c .sector))
+
 module _ (c : Copied) (d : Drive) (n : ℕ) where
   -- what only a transfer is asked
   abbrev pub transferTable : List Case
@@ -38,7 +42,7 @@ module _ (c : Copied) (d : Drive) (n : ℕ) where
       ∷ (c .count ≡ 0) ⇒ 0x13
       ∷ (d .cylinder < c .cylinder) ⇒ 0x10
       ∷ (d .head < c .head) ⇒ 0x11
-      ∷ (d .sector < c .sector) ⇒ 0x12
+      ∷ SectorAbove d c ⇒ 0x12
       ∷ (sectorCount d < firstSector d c + c .count) ⇒ 0x10
       ∷ ((commandIn (c .byte0) ≡ write) × (d .protected ≡ true)) ⇒ 0x90
       ∷ (n < c .address + sectorBytes * c .count) ⇒ 0x4B

@@ -5,6 +5,7 @@ pub mod WalkNumbers
 pub mod PickNumbers
 pub mod EachNumber
 pub mod Looks
+pub mod Numbering
 pub mod Views
 pub mod Codes
 pub mod Refused

@@ -8,11 +8,13 @@ use Rattle.meaning.specs.declared.Record.{Record}
 use Rattle.meaning.specs.declared.Walked.{Walked}
 use Rattle.meaning.specs.declared.Ran.{Ran}
 use Rattle.meaning.specs.declared.Part.{Part}
+use Rattle.meaning.specs.declared.Placed.{Placed}
 use Rattle.meaning.specs.declared.Iopb.{Iopb}
 use Rattle.meaning.specs.OneReply.{OneReply}
 use Rattle.meaning.specs.Store.{Store}
 use Rattle.meaning.specs.State.{State, stateOf}
 use Rattle.meaning.specs.Look.{lookNumber, lookPart, lookedPart}
+use Rattle.meaning.specs.Place.{placed}
 use Rattle.meaning.specs.View.{madeNumber, viewOf}
 use Rattle.meaning.specs.Walk.{WalkGives}
 use Rattle.meaning.specs.Pick.{PickGives}
@@ -36,5 +38,6 @@ pub record EachHasOneReply : Type 1 where
   pub look : (d : Drive) (n : ℕ) (s : Store) → OneReply (λ (l : List ℕ). l ≡ lookPart d n s)
   pub looked-part : (d : Drive) (n : ℕ) (s : Store) → OneReply (λ (x : Part). x ≡ lookedPart d n s)
   pub look-number : (d : Drive) (n : ℕ) (s : Store) → OneReply (λ (k : ℕ). k ≡ lookNumber d n s)
+  pub place : (d : Drive) (n : ℕ) → OneReply (λ (x : Placed). x ≡ placed d n)
   pub view : (m : List ℕ) (a : ℕ) → OneReply (λ (v : Iopb). v ≡ viewOf m a)
   pub view-number : (m : List ℕ) (a : ℕ) → OneReply (λ (k : ℕ). k ≡ madeNumber m a)

@@ -1,10 +1,12 @@
-//! Random calls after a walk: picks, lists, runs, looks and views, by tables of any lent length, and
-//! things that a host may do in between.
+//! Random calls after a walk: picks, lists, runs, looks, places and views, by tables of any lent
+//! length, and things that a host may do in between.
 
 use crate::differ::call::{Call, Reply};
 use crate::differ::play::{Play, Played};
 use crate::differ::sides::RECORDS;
 use crate::differ::spoil::{spoil_and_call, wrong_size_and_call};
+use second::drive::Drive;
+use second::makers::rng::Rng;
 
 /// A walk, mostly with 32 records lent; after a table that is too short, again with enough.
 pub fn walk(play: &mut Play, start: u32) -> Played {
@@ -138,22 +140,41 @@ fn host_writes(play: &mut Play) {
     play.sides.put(at as usize, &bytes);
 }
 
-/// Looks at a sector and views an IOPB or two, at edges and where the chain lies.
+/// Looks at a sector, asks for a place, and views an IOPB or two, at edges and where the chain lies.
 pub fn look_around(play: &mut Play) -> Played {
-    let sectors = play.sides.ground().drive.number_of_sectors();
-    let rng = &mut play.rng;
-    let sector = match rng.below(10) {
-        0 => sectors,
-        1 => rng.one_of(&[sectors + 1, 0xFFFF_FFFF]),
-        2 => sectors - 1,
-        _ => rng.below(sectors),
-    };
-    play.call(Call::Look { sector: sector.min(0xFFFF_FFFF) as u32 })?;
+    let sector = random_sector(play);
+    play.call(Call::Look { sector })?;
+    let sector = random_sector(play);
+    play.call(Call::Place { sector })?;
     for _ in 0..play.rng.between(1, 2) {
         let at = random_address(play);
         play.call(Call::View { at: at.min(0xFFFF_FFFF) as u32 })?;
     }
     Ok(())
+}
+
+/// A sector's number: mostly one that the drive has, often at the end of a head; now and then past the
+/// last, also one that the drive would have if its heads were equal.
+pub fn random_sector(play: &mut Play) -> u32 {
+    let drive = play.sides.ground().drive;
+    let sectors = drive.number_of_sectors();
+    let rng = &mut play.rng;
+    let sector = match rng.below(20) {
+        0 | 1 => sectors,
+        2 => rng.one_of(&[sectors + 1, 0xFFFF_FFFF]),
+        3 => drive.as_if_equal().number_of_sectors() - 1,
+        4 | 5 => sectors - 1,
+        6..=9 => end_of_a_head(rng, &drive),
+        _ => rng.below(sectors),
+    };
+    sector.min(0xFFFF_FFFF) as u32
+}
+
+/// The last sector of a head, mostly of the last one, or the sector after it.
+fn end_of_a_head(rng: &mut Rng, drive: &Drive) -> u64 {
+    let cylinder = rng.below(drive.cylinders());
+    let head = if rng.percent(60) { drive.heads() - 1 } else { rng.below(drive.heads()) };
+    drive.sector_number(cylinder, head, drive.max_sector_of(head)) + rng.below(2)
 }
 
 /// An address for a view: at memory's end, past it, or on the chain.

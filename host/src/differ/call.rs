@@ -1,6 +1,7 @@
 //! One call of a board, and its reply, in a form that both sides share.
 
 use crate::declared::{Ran, Walked};
+use second::place::Place;
 use std::fmt;
 
 /// A call. `lent` is the length of the table that is lent for it.
@@ -11,6 +12,7 @@ pub enum Call {
     Picks { picks: Vec<u8>, commands: usize, lent: usize },
     Written { budget: u64, commands: usize, lent: usize },
     Look { sector: u32 },
+    Place { sector: u32 },
     View { at: u32 },
 }
 
@@ -25,6 +27,11 @@ pub enum Reply {
         number: u8,
         at: usize,
         length: usize,
+    },
+    /// The number, and the place in the second program's words, which are wide enough for any.
+    Placed {
+        number: u8,
+        place: Place,
     },
     /// The number of the viewer's making, and its fields in the order of docs/CASES.md.
     Viewed {
@@ -42,6 +49,7 @@ impl Call {
             Call::Picks { .. } => "run by picks",
             Call::Written { .. } => "run as written",
             Call::Look { .. } => "look",
+            Call::Place { .. } => "place",
             Call::View { .. } => "view",
         }
     }
@@ -53,7 +61,9 @@ impl Reply {
             Reply::Walked(walked) => walked.number,
             Reply::Picked(number) => *number,
             Reply::Ran(ran) => ran.number,
-            Reply::Looked { number, .. } | Reply::Viewed { number, .. } => *number,
+            Reply::Looked { number, .. }
+            | Reply::Placed { number, .. }
+            | Reply::Viewed { number, .. } => *number,
         }
     }
 }
@@ -75,6 +85,7 @@ impl fmt::Display for Call {
                 "run as written, budget {budget}, of {commands} commands, with {lent} records lent"
             ),
             Call::Look { sector } => write!(out, "look at sector {sector}"),
+            Call::Place { sector } => write!(out, "place of sector {sector}"),
             Call::View { at } => write!(out, "view at {at}"),
         }
     }
@@ -97,6 +108,9 @@ impl fmt::Display for Reply {
             ),
             Reply::Looked { number, at, length } => {
                 write!(out, "number {number}, {length} bytes at {at}")
+            }
+            Reply::Placed { number, place: Place { cylinder, head, sector } } => {
+                write!(out, "number {number}, cylinder {cylinder}, head {head}, sector {sector}")
             }
             Reply::Viewed { number, fields } => write!(out, "number {number}, fields {fields:?}"),
         }

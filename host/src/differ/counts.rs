@@ -1,16 +1,21 @@
-//! How often each number and each code came up, so that one can see that all were reached.
+//! How often each number and each code came up, and each thing that the last head's own maximum
+//! changes, so that one can see that all were reached.
 
 use crate::differ::call::{Call, Reply};
+use crate::differ::last_head;
 use crate::differ::sides::RECORDS;
+use second::board::Board;
+use second::record::Record;
 use std::collections::BTreeMap;
 
 /// The numbers that each call can give.
-const NUMBERS: [(&str, &[u8]); 6] = [
+const NUMBERS: [(&str, &[u8]); 7] = [
     ("walk", &[0, 1, 2, 3, 4, 5]),
     ("pick", &[0, 1, 6, 7, 8, 9]),
     ("run by picks", &[0, 1, 9]),
     ("run as written", &[0, 1, 9]),
     ("look", &[0, 1, 10]),
+    ("place", &[0, 1, 10]),
     ("view", &[0, 2, 3]),
 ];
 
@@ -37,7 +42,7 @@ fn all_rows() -> Vec<String> {
         .iter()
         .flat_map(|(word, numbers)| numbers.iter().map(|number| number_row(word, *number)));
     let runs = ["run finished", "run not finished", "pick refused in a list"].map(String::from);
-    numbers.chain(CODES.map(code_row)).chain(runs).collect()
+    numbers.chain(CODES.map(code_row)).chain(runs).chain(last_head::all_rows()).collect()
 }
 
 impl Default for Counts {
@@ -48,10 +53,13 @@ impl Default for Counts {
 }
 
 impl Counts {
-    /// Counts a call; a walk's commands are at the front of the table.
-    pub fn see(&mut self, call: &Call, reply: &Reply, table: &[second::record::Record; RECORDS]) {
+    /// Counts a call on this ground; a walk's commands are at the front of the table.
+    pub fn see(&mut self, call: &Call, reply: &Reply, ground: &Board, table: &[Record; RECORDS]) {
         self.calls += 1;
         self.add(number_row(call.word(), reply.number()), 1);
+        for row in last_head::rows(call, reply, ground, table) {
+            self.add(row, 1);
+        }
         match reply {
             Reply::Walked(walked) => {
                 for record in &table[..walked.commands] {
@@ -84,10 +92,10 @@ impl Counts {
 
     /// The counts, one row to a line.
     pub fn text(&self) -> String {
-        let mut text =
-            format!("{:<24} {:>10}\n{:<24} {:>10}\n", "chains", self.chains, "calls", self.calls);
+        let line = |row: &str, times: u64| format!("{row:<55} {times:>10}\n");
+        let mut text = line("chains", self.chains) + &line("calls", self.calls);
         for row in all_rows() {
-            text += &format!("{row:<24} {:>10}\n", self.rows[&row]);
+            text += &line(&row, self.rows[&row]);
         }
         text
     }

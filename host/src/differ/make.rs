@@ -1,13 +1,13 @@
 //! Makes and plays the n-th chain of a seed. The seed and the chain's number decide everything.
 
 use crate::boards::Board;
-use crate::differ::acts::{act, look_around, walk};
+use crate::differ::acts::{act, look_around, random_sector, walk};
 use crate::differ::call::Call;
 use crate::differ::counts::Counts;
 use crate::differ::play::{Play, Played};
 use second::board::SECTOR_BYTES;
 use second::makers::chain::random_chain;
-use second::makers::ground::{ground, limit_ground};
+use second::makers::ground::{any_drive, ground, limit_ground};
 use second::makers::rng::Rng;
 use second::makers::script::Script;
 use second::record::Record;
@@ -20,6 +20,7 @@ pub fn play_chain(board: &Board, seed: u64, n: u64, counts: &mut Counts, tell: b
         0..=83 => chain(&mut play),
         84..=91 => table_by_hand(&mut play),
         92..=95 => sizes(&mut play),
+        96 | 97 => places(&mut play),
         _ => views(&mut play),
     }
 }
@@ -149,6 +150,20 @@ fn sizes(play: &mut Play) -> Played {
     act(play)?;
     look_around(play)?;
     play.call(Call::Written { budget: u64::MAX, commands: play.commands, lent: 32 })?;
+    Ok(())
+}
+
+/// Places on drives of any size: no image is needed for them.
+fn places(play: &mut Play) -> Played {
+    for _ in 0..play.rng.between(2, 5) {
+        let drive = any_drive(&mut play.rng);
+        play.say(|| format!("the drive becomes {drive:?}"));
+        play.sides.set_drive(drive);
+        for _ in 0..play.rng.between(1, 4) {
+            let sector = random_sector(play);
+            play.call(Call::Place { sector })?;
+        }
+    }
     Ok(())
 }
 

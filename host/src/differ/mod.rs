@@ -4,6 +4,7 @@
 pub mod acts;
 pub mod call;
 pub mod counts;
+pub mod last_head;
 pub mod make;
 pub mod play;
 pub mod sides;

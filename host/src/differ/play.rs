@@ -46,7 +46,7 @@ impl<'a> Play<'a> {
         if self.tell {
             println!("call {}: {call}\n    {reply}", self.calls);
         }
-        self.counts.see(&call, &reply, self.sides.table());
+        self.counts.see(&call, &reply, self.sides.ground(), self.sides.table());
         Ok(reply)
     }
 

@@ -4,7 +4,7 @@
 use crate::boards::Board;
 use crate::declared::{Ran, Record, Walked};
 use crate::differ::call::{Call, Reply};
-use crate::translate::{drive_of, record_of, second_fields_of};
+use crate::translate::{drive_of, record_of, second_fields_of, second_place_of};
 
 /// The records that a caller holds; the lent table is the first of them.
 pub const RECORDS: usize = 40;
@@ -40,7 +40,7 @@ impl<'a> Sides<'a> {
         &self.second_table
     }
 
-    pub fn set_drive(&mut self, drive: second::board::Drive) {
+    pub fn set_drive(&mut self, drive: second::drive::Drive) {
         self.second.drive = drive;
     }
 
@@ -133,6 +133,10 @@ impl<'a> Sides<'a> {
                 let number = (board.look_number)(image, drive, *sector);
                 Reply::Looked { number, at: part.at, length: part.length }
             }
+            Call::Place { sector } => {
+                let placed = (board.place)(drive, *sector);
+                Reply::Placed { number: placed.number, place: second_place_of(&placed.place) }
+            }
             Call::View { at } => Reply::Viewed {
                 number: (board.view_number)(memory, *at),
                 fields: second_fields_of(&(board.view)(memory, *at)).in_order(),
@@ -166,6 +170,10 @@ impl<'a> Sides<'a> {
                 Reply::Ran(Ran { steps, refused: 0, number, finished: ran.finished })
             }
             Call::Look { sector } => self.look_by_second(*sector),
+            Call::Place { sector } => {
+                let (number, place) = second::place::place(&board.drive, u64::from(*sector));
+                Reply::Placed { number, place }
+            }
             Call::View { at } => {
                 let (number, fields) = second::iopb::view(board, u64::from(*at));
                 Reply::Viewed { number, fields: fields.in_order() }

@@ -1,10 +1,11 @@
 //! Spoils one thing, the table, the number of commands, the protect mark or a size, at both sides of
 //! its line; calls; and mostly puts it back.
 
-use crate::differ::acts::call_on_table;
+use crate::differ::acts::{call_on_table, random_sector};
 use crate::differ::call::Call;
 use crate::differ::play::{Play, Played};
-use second::board::{Drive, SECTOR_BYTES};
+use second::board::{IMAGE_LIMIT, SECTOR_BYTES};
+use second::drive::Drive;
 use second::makers::ground::other_drive;
 use second::makers::rng::Rng;
 use second::record::Record;
@@ -132,11 +133,8 @@ pub fn wrong_size_and_call(play: &mut Play) -> Played {
         }
         5 | 6 => {
             let right = play.sides.ground().image.clone();
-            let full = right.len();
-            let wrong =
-                [0, 1, full.saturating_sub(1), full + 1, full.saturating_sub(512), full + 512];
             let mut image = right.clone();
-            image.resize(play.rng.one_of(&wrong), 0x5A);
+            image.resize(wrong_image_length(play), 0x5A);
             play.say(|| format!("the image has {} bytes", image.len()));
             play.sides.set_image(image);
             calls_on_sizes(play)?;
@@ -153,14 +151,39 @@ pub fn wrong_size_and_call(play: &mut Play) -> Played {
     Ok(())
 }
 
-/// Calls that meet a wrong size; one that looks meets only the image's.
+/// A length beside the right one, or that of a drive with equal heads.
+fn wrong_image_length(play: &mut Play) -> usize {
+    let full = play.sides.ground().image.len();
+    let equal = SECTOR_BYTES * play.sides.ground().drive.as_if_equal().number_of_sectors();
+    // with equal heads a large drive would ask for more than is worth laying
+    let equal = equal.min(IMAGE_LIMIT + SECTOR_BYTES) as usize;
+    let wrong = [
+        0,
+        1,
+        full.saturating_sub(1),
+        full + 1,
+        full.saturating_sub(512),
+        full + 512,
+        equal,
+        equal,
+    ];
+    play.rng.one_of(&wrong)
+}
+
+/// Calls that meet a wrong size; one that looks meets only the image's and the drive's, one that asks
+/// for a place only the drive's.
 fn calls_on_sizes(play: &mut Play) -> Played {
     for _ in 0..play.rng.between(1, 3) {
-        if play.rng.percent(25) {
-            let sector = play.rng.below(40) as u32;
-            play.call(Call::Look { sector })?;
-        } else {
-            call_on_table(play)?;
+        match play.rng.below(8) {
+            0 | 1 => {
+                let sector = play.rng.below(40) as u32;
+                play.call(Call::Look { sector })?;
+            }
+            2 => {
+                let sector = random_sector(play);
+                play.call(Call::Place { sector })?;
+            }
+            _ => call_on_table(play)?,
         }
     }
     if play.rng.percent(25) {

@@ -3,7 +3,7 @@
 
 use crate::archive;
 use crate::declared::{Drive, Record};
-use crate::translate::second_record_of;
+use crate::translate::{second_drive_of, second_record_of};
 use second::board::Board;
 use second::makers::block::Block;
 
@@ -14,8 +14,9 @@ pub const TABLES: usize = 16;
 pub const SECTOR: usize = 512;
 const MEMORY: usize = 65_536;
 const IOPBS: usize = 32 * COMMANDS;
-/// 16 cylinders of 16 heads of 16 sectors: 2 MiB.
-const DRIVE: Drive = Drive { cylinder: 15, head: 15, sector: 15, protected: false };
+/// 16 cylinders of 16 heads, all of 16 sectors: 2 MiB.
+const DRIVE: Drive =
+    Drive { cylinder: 15, head: 15, sector: 15, last_sector: 15, protected: false };
 
 pub type Table = [Record; COMMANDS];
 
@@ -73,12 +74,7 @@ impl Ground {
         let reply = archive::walk(&memory, &image, DRIVE, 0, &mut walked);
         assert_eq!((reply.number, reply.commands), (0, COMMANDS), "the chain is accepted");
         assert!(walked.iter().all(|record| record.code == 0), "every command is a transfer");
-        let drive = second::board::Drive {
-            max_cylinder: DRIVE.cylinder,
-            max_head: DRIVE.head,
-            max_sector: DRIVE.sector,
-            protected: false,
-        };
+        let drive = second_drive_of(&DRIVE);
         let second = Board { memory: memory.clone(), image: image.clone(), drive };
         let mut ground = Ground {
             memory,

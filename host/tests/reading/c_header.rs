@@ -6,6 +6,9 @@ use super::{inside, one_line, Declared};
 /// C++ keeps the word `protected` for itself, so the header has another for that one field.
 const OTHER_WORDS: [(&str, &str); 1] = [("write_protected", "protected")];
 
+/// In C a struct and a function cannot both be `rosadenca_place`, so the struct has another name.
+const OTHER_STRUCTS: [(&str, &str); 1] = [("rosadenca_disk_place", "Place")];
+
 /// What the header has a C compiler test; it declares nothing.
 const TESTS: [&str; 2] = ["ROSADENCA_HOLDS(", "ROSADENCA_AT("];
 
@@ -96,6 +99,9 @@ fn type_of(kind: &str) -> String {
 
 /// `rosadenca_part` is `Part`.
 fn struct_name(name: &str) -> Option<String> {
+    if let Some((_, other)) = OTHER_STRUCTS.iter().find(|(c, _)| *c == name) {
+        return Some(other.to_string());
+    }
     let words = name.strip_prefix("rosadenca_")?.split('_');
     Some(words.map(|word| word[..1].to_uppercase() + &word[1..]).collect())
 }

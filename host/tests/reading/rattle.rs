@@ -1,5 +1,5 @@
 //! What the firmware's Rattle source exports: every function marked `pub extern "C"`, and every
-//! struct that one of them takes or gives.
+//! struct that one of them takes or gives, or that lies in such a struct.
 
 use super::{inside, name_and_type, one_line, parts, without_line_comments, Declared, Named};
 use std::collections::BTreeMap;
@@ -11,16 +11,29 @@ pub fn declared(files: &[String]) -> Declared {
     let all = structs_in(&text);
     let mut structs = BTreeMap::new();
     for (parameters, result) in functions.values() {
-        let kinds = parameters.iter().map(|(_, kind)| kind).chain([result]);
-        for kind in kinds {
+        for kind in parameters.iter().map(|(_, kind)| kind).chain([result]) {
             let kind = kind.trim_start_matches("*const ").trim_start_matches("*mut ");
-            if let Some((fields, repr_c)) = all.get(kind) {
-                assert!(repr_c, "struct {kind} is exported, and has no #[repr(C)]");
-                structs.insert(kind.to_string(), fields.clone());
-            }
+            export(kind, &all, &mut structs);
         }
     }
     Declared { structs, functions }
+}
+
+/// Takes a struct among those that are exported, with the structs of its fields; a type that is no
+/// struct is passed over.
+fn export(
+    kind: &str,
+    all: &BTreeMap<String, (Named, bool)>,
+    structs: &mut BTreeMap<String, Named>,
+) {
+    let Some((fields, repr_c)) = all.get(kind) else {
+        return;
+    };
+    assert!(repr_c, "struct {kind} is exported, and has no #[repr(C)]");
+    structs.insert(kind.to_string(), fields.clone());
+    for (_, field) in fields {
+        export(field, all, structs);
+    }
 }
 
 /// Every struct with named fields, and whether it is marked #[repr(C)].

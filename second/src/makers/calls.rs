@@ -1,6 +1,8 @@
 //! Random calls after a walk: picks, lists, runs, looks and views, and calls
 //! on boards whose sizes have gone wrong.
 
+use crate::board::SECTOR_BYTES;
+use crate::drive::Drive;
 use crate::makers::chain::Chain;
 use crate::makers::ground::{fill_image, other_drive};
 use crate::makers::rng::Rng;
@@ -27,21 +29,22 @@ pub fn walk(rng: &mut Rng, script: &mut Script, start: u64) {
 /// One thing that a caller may do after the walk.
 pub fn act(rng: &mut Rng, script: &mut Script, chain: &Chain) {
     match rng.below(100) {
-        0..=26 => {
+        0..=25 => {
             for _ in 0..rng.between(1, 4) {
                 let place = random_place(rng, script);
                 script.say(Line::Pick(place));
             }
         }
-        27..=46 => random_list(rng, script),
-        47..=55 => {
+        26..=45 => random_list(rng, script),
+        46..=54 => {
             script.say(Line::Written(rng.below(5)));
         }
-        56..=63 => look_around(rng, script, chain),
-        64..=67 => {
+        55..=62 => look_around(rng, script, chain),
+        63..=65 => {
             script.say(Line::Steps);
         }
-        68..=85 => spoil_and_call(rng, script),
+        66..=68 => ask_places(rng, script),
+        69..=85 => spoil_and_call(rng, script),
         86..=93 => lent_calls(rng, script, chain),
         _ => wrong_size_and_call(rng, script),
     }
@@ -103,18 +106,51 @@ pub fn call_on_table(rng: &mut Rng, script: &mut Script) {
 
 /// Looks at sectors, fields and views, at edges and where the chain lies.
 pub fn look_around(rng: &mut Rng, script: &mut Script, chain: &Chain) {
-    let sectors = script.state.board.drive.number_of_sectors();
-    let sector = match rng.below(10) {
-        0 => sectors,
-        1 => rng.one_of(&[sectors + 1, ALL_32_BITS]).min(ALL_32_BITS),
-        2 => sectors - 1,
-        _ => rng.below(sectors),
-    };
-    script.say(Line::Look(sector.min(ALL_32_BITS)));
+    let sector = random_sector(rng, script);
+    script.say(Line::Look(sector));
+    if rng.percent(30) {
+        // The place of the sector just looked at, as often as not.
+        let other = random_sector(rng, script);
+        script.say(Line::Place(rng.one_of(&[sector, other])));
+    }
     for _ in 0..rng.between(1, 2) {
         let address = random_address(rng, script, chain);
         script.say(if rng.percent(50) { Line::Fields(address) } else { Line::View(address) });
     }
+}
+
+/// Places of a few numbers, one of them often beside the one before.
+pub fn ask_places(rng: &mut Rng, script: &mut Script) {
+    for _ in 0..rng.between(1, 3) {
+        let sector = random_sector(rng, script);
+        script.say(Line::Place(sector));
+        if rng.percent(50) {
+            script.say(Line::Place((sector + 1).min(ALL_32_BITS)));
+        }
+    }
+}
+
+/// A sector's number: mostly one of the drive's, often at the end of a head,
+/// now and then past the last.
+fn random_sector(rng: &mut Rng, script: &Script) -> u64 {
+    let drive = &script.state.board.drive;
+    let sectors = drive.number_of_sectors();
+    let number = match rng.below(20) {
+        0 | 1 => sectors,
+        2 => rng.one_of(&[sectors + 1, ALL_32_BITS]),
+        3 => drive.as_if_equal().number_of_sectors() - 1,
+        4 | 5 => sectors - 1,
+        6..=8 => end_of_head(rng, drive),
+        _ => rng.below(sectors),
+    };
+    number.min(ALL_32_BITS)
+}
+
+/// The last sector of some head, or the one after it.
+fn end_of_head(rng: &mut Rng, drive: &Drive) -> u64 {
+    let cylinder = rng.below(drive.cylinders());
+    let head = if rng.percent(60) { drive.heads() - 1 } else { rng.below(drive.heads()) };
+    drive.sector_number(cylinder, head, drive.max_sector_of(head)) + rng.below(2)
 }
 
 /// An address for a view: at memory's end, past it, or on the chain.
@@ -156,8 +192,7 @@ fn wrong_size_and_call(rng: &mut Rng, script: &mut Script) {
             script.say(Line::Drive(right));
         }
         5 | 6 => {
-            let length = script.state.board.image.len() as u64;
-            let length = rng.one_of(&[0, 1, length - 1, length + 1, length - 512, length + 512]);
+            let length = wrong_image_length(rng, script);
             script.say(Line::Image { length, a: rng.byte(), b: rng.byte(), c: rng.byte() });
             calls_on_sizes(rng, script);
             fill_image(rng, script);
@@ -170,13 +205,31 @@ fn wrong_size_and_call(rng: &mut Rng, script: &mut Script) {
     }
 }
 
-/// Calls that meet a wrong size; one that looks meets only the image's.
+/// An image's length beside the right one, or that of equal heads.
+fn wrong_image_length(rng: &mut Rng, script: &Script) -> u64 {
+    let right = script.state.board.image.len() as u64;
+    let equal = SECTOR_BYTES * script.state.board.drive.as_if_equal().number_of_sectors();
+    let beside = [right - 1, right + 1, right - SECTOR_BYTES, right + SECTOR_BYTES];
+    match rng.below(8) {
+        0 => 0,
+        1 => 1,
+        2 | 3 => equal,
+        _ => rng.one_of(&beside),
+    }
+}
+
+/// Calls that meet a wrong size; one that looks meets only the image's, and
+/// one that asks for a place only the drive's.
 fn calls_on_sizes(rng: &mut Rng, script: &mut Script) {
     for _ in 0..rng.between(1, 3) {
-        if rng.percent(25) {
-            script.say(Line::Look(rng.below(40)));
-        } else {
-            call_on_table(rng, script);
+        match rng.below(8) {
+            0 | 1 => {
+                script.say(Line::Look(rng.below(40)));
+            }
+            2 => {
+                script.say(Line::Place(rng.below(60)));
+            }
+            _ => call_on_table(rng, script),
         }
     }
     if rng.percent(25) {

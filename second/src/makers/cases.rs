@@ -2,9 +2,9 @@
 //! The seed and the case's number decide everything.
 
 use crate::board::SECTOR_BYTES;
-use crate::makers::calls::{act, call_on_table, look_around, random_address, walk};
+use crate::makers::calls::{act, ask_places, call_on_table, look_around, random_address, walk};
 use crate::makers::chain::{random_chain, Chain};
-use crate::makers::ground::{ground, limit_ground};
+use crate::makers::ground::{any_drive, ground, limit_ground};
 use crate::makers::rng::Rng;
 use crate::makers::script::Script;
 use crate::makers::ALL_32_BITS;
@@ -17,9 +17,10 @@ pub fn random_case(seed: u64, n: u64) -> Script {
     let mut script = Script::default();
     script.say(Line::Case(n));
     match rng.below(100) {
-        0..=87 => chain_case(&mut rng, &mut script),
-        88..=93 => table_case(&mut rng, &mut script),
-        94..=96 => view_case(&mut rng, &mut script),
+        0..=85 => chain_case(&mut rng, &mut script),
+        86..=91 => table_case(&mut rng, &mut script),
+        92..=94 => view_case(&mut rng, &mut script),
+        95 | 96 => place_case(&mut rng, &mut script),
         _ => sizes_case(&mut rng, &mut script),
     }
     script
@@ -142,6 +143,16 @@ fn view_case(rng: &mut Rng, script: &mut Script) {
         let near = random_address(rng, script, &chain);
         let address = if rng.percent(60) { rng.below(length + 2) } else { near };
         script.say(if rng.percent(50) { Line::Fields(address) } else { Line::View(address) });
+    }
+}
+
+/// Places on drives of any size, with no memory and no image.
+fn place_case(rng: &mut Rng, script: &mut Script) {
+    for _ in 0..rng.between(1, 3) {
+        script.say(Line::Drive(any_drive(rng)));
+        for _ in 0..rng.between(1, 3) {
+            ask_places(rng, script);
+        }
     }
 }
 

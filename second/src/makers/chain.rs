@@ -3,9 +3,11 @@
 //! sector to either side, since that is where conflicts begin and end.
 
 use crate::board::{Board, SECTOR_BYTES};
+use crate::drive::Drive;
 use crate::iopb::IOPB_BYTES;
 use crate::makers::block::Block;
 use crate::makers::rng::Rng;
+use crate::place::{counted_to, Place};
 
 /// A chain ready to be put in memory.
 #[derive(Clone, Debug)]
@@ -27,6 +29,7 @@ struct Transfer {
 struct Lay<'a> {
     memory: u64,
     sectors: u64,
+    drive: &'a Drive,
     addresses: &'a [u64],
     near: u64,
 }
@@ -93,6 +96,7 @@ pub fn commands(rng: &mut Rng, board: &Board, addresses: &[u64]) -> Vec<Block> {
     let lay = Lay {
         memory: board.memory_bytes(),
         sectors: board.drive.number_of_sectors(),
+        drive: &board.drive,
         addresses,
         near: rng.one_of(&[0, 25, 60, 90]),
     };
@@ -112,11 +116,8 @@ pub fn commands(rng: &mut Rng, board: &Board, addresses: &[u64]) -> Vec<Block> {
 }
 
 fn block_for(rng: &mut Rng, board: &Board, command: u8, transfer: &Transfer) -> Block {
-    let per_track = board.drive.sectors_per_track();
-    let per_cylinder = board.drive.heads() * per_track;
-    let cylinder = transfer.sector / per_cylinder;
-    let head = transfer.sector % per_cylinder / per_track;
-    let sector = transfer.sector % per_track;
+    let place = counted_to(&board.drive, transfer.sector);
+    let Place { cylinder, head, sector } = place.expect("every transfer begins on the drive");
     // With CHEN clear the next address is not looked at: it may be anything.
     let next = rng.next() % (1 << 32);
     Block::random(rng, command)
@@ -143,13 +144,26 @@ fn transfer(rng: &mut Rng, lay: &Lay, earlier: &[Transfer]) -> Transfer {
 fn first_sector(rng: &mut Rng, lay: &Lay, count: u64, earlier: &[Transfer]) -> u64 {
     let last = lay.sectors - count.min(lay.sectors);
     if earlier.is_empty() || !rng.percent(lay.near) {
-        return if rng.once_in(6) { last } else { rng.between(0, last) };
+        return match rng.below(6) {
+            0 => last,
+            1 if lay.drive.last_head_shorter() => over_an_end(rng, lay.drive, count).min(last),
+            _ => rng.between(0, last),
+        };
     }
     let other = rng.one_of(earlier);
     let end = other.sector + other.count;
     let before = other.sector.saturating_sub(count);
     let near = [other.sector, other.sector, end - 1, end, before, before + 1];
     rng.one_of(&near).min(last)
+}
+
+/// A first sector from which so many run up to the end of some head or, if
+/// they are more than one, mostly past it: onto the next head or cylinder.
+fn over_an_end(rng: &mut Rng, drive: &Drive, count: u64) -> u64 {
+    let cylinder = rng.below(drive.cylinders());
+    let head = if rng.percent(60) { drive.heads() - 1 } else { rng.below(drive.heads()) };
+    let end = drive.sector_number(cylinder, head, drive.sectors_of(head));
+    end.saturating_sub(rng.between(1, count))
 }
 
 fn data_address(rng: &mut Rng, lay: &Lay, bytes: u64, earlier: &[Transfer]) -> u64 {
@@ -203,11 +217,13 @@ fn near_data(rng: &mut Rng, bytes: u64, earlier: &[Transfer]) -> u64 {
 fn fault(rng: &mut Rng, board: &Board, block: Block, transfer: &Transfer) -> Block {
     let drive = &board.drive;
     let (cylinder, head, sector) =
-        (place(&block, 0x0A, 2), place(&block, 0x0C, 1), place(&block, 0x0D, 1));
+        (number_in(&block, 0x0A, 2), number_in(&block, 0x0C, 1), number_in(&block, 0x0D, 1));
     let past_cylinder = u64::from(drive.max_cylinder) + 1;
     let past_head = u64::from(drive.max_head) + 1;
-    let past_sector = u64::from(drive.max_sector) + 1;
-    match rng.below(12) {
+    // Past the maximum of the command's own head.
+    let past_sector = drive.sectors_of(head);
+    let kinds = if drive.last_head_shorter() { 14 } else { 12 };
+    match rng.below(kinds) {
         0 => block.command(rng.between(3, 15) as u8),
         1 => block.sgm(),
         2 => block.subfunction(rng.between(1, 255) as u8),
@@ -220,11 +236,29 @@ fn fault(rng: &mut Rng, board: &Board, block: Block, transfer: &Transfer) -> Blo
         7 => block.at(cylinder, head, rng.one_of(&[past_sector, past_sector, 0xFF]).min(0xFF)),
         8 => block.count(count_past_drive(rng, drive.number_of_sectors(), transfer.sector)),
         9 => block.at(past_cylinder.min(0xFFFF), past_head.min(0xFF), past_sector.min(0xFF)),
+        12 | 13 => {
+            let (head, sector) = past_one_maximum(rng, drive);
+            block.at(cylinder, head, sector)
+        }
         _ => block.data(data_past_memory(rng, board.memory_bytes(), transfer.count)),
     }
 }
 
-fn place(block: &Block, from: usize, bytes: usize) -> u64 {
+/// A head and a sector past one of the two maxima, where the last head is
+/// shorter: on the last head between the two, or on another past the larger.
+fn past_one_maximum(rng: &mut Rng, drive: &Drive) -> (u64, u64) {
+    let last_head = u64::from(drive.max_head);
+    let others = u64::from(drive.max_sector);
+    let past_last = drive.sectors_of(last_head);
+    if rng.percent(60) {
+        let between = rng.between(past_last, others);
+        return (last_head, rng.one_of(&[past_last, others, between]));
+    }
+    (rng.below(last_head.max(1)), (others + 1).min(0xFF))
+}
+
+/// The number that stands in so many bytes of a block.
+fn number_in(block: &Block, from: usize, bytes: usize) -> u64 {
     block.bytes[from..from + bytes].iter().fold(0, |sum, byte| sum * 256 + u64::from(*byte))
 }
 

@@ -2,7 +2,8 @@
 //! said, so that a maker can see the table and aim at its edges.
 
 use crate::bench::BENCH_MEMORY;
-use crate::board::{Drive, SECTOR_BYTES};
+use crate::board::SECTOR_BYTES;
+use crate::drive::Drive;
 use crate::makers::block::Block;
 use crate::record::Record;
 use crate::trial::answer::Answer;
@@ -36,8 +37,10 @@ impl Script {
         self.cases += 1;
     }
 
+    /// A drive whose last head is like the others.
     pub fn drive(&mut self, max_cylinder: u16, max_head: u8, max_sector: u8, protected: bool) {
-        self.say(Line::Drive(Drive { max_cylinder, max_head, max_sector, protected }));
+        let drive = Drive::with_equal_heads(max_cylinder, max_head, max_sector);
+        self.say(Line::Drive(Drive { protected, ..drive }));
     }
 
     /// The drive and memory of the bench.

@@ -1,7 +1,8 @@
 //! Random spoiling of a table, aimed at both sides of each line of number 9,
 //! followed by calls and mostly by a repair.
 
-use crate::board::{Drive, SECTOR_BYTES};
+use crate::board::SECTOR_BYTES;
+use crate::drive::Drive;
 use crate::iopb::IOPB_BYTES;
 use crate::makers::calls::call_on_table;
 use crate::makers::rng::Rng;
@@ -85,7 +86,10 @@ fn wrong_value(rng: &mut Rng, script: &Script, record: &Record, field: u64) -> u
         0 => rng.one_of(&either_side(memory.saturating_sub(IOPB_BYTES))),
         1 if rng.once_in(4) => rng.one_of(&[ALL_32_BITS, (1 << 32) - SECTOR_BYTES, memory]),
         1 => rng.one_of(&either_side(memory.saturating_sub(record.data_bytes()))),
-        2 if rng.once_in(4) => rng.one_of(&[ALL_32_BITS, sectors]),
+        2 if rng.once_in(3) => {
+            let equal = script.state.board.drive.as_if_equal().number_of_sectors();
+            rng.one_of(&[ALL_32_BITS, sectors, equal.saturating_sub(count)])
+        }
         2 => rng.one_of(&either_side(sectors.saturating_sub(count))),
         3 if rng.once_in(6) => ALL_32_BITS,
         3 => rng.one_of(&either_side(record.steps())),

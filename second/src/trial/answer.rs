@@ -3,6 +3,7 @@
 
 use crate::bench::BenchReply;
 use crate::iopb::Fields;
+use crate::place::Place;
 use crate::run::{PicksReply, WrittenReply};
 use crate::trial::digest::{digest, digest_of_records};
 use crate::trial::state::State;
@@ -28,6 +29,10 @@ pub enum Answer {
     Look {
         number: u8,
         part: Vec<u8>,
+    },
+    Place {
+        number: u8,
+        place: Place,
     },
     Fields(Fields),
     View {
@@ -60,6 +65,9 @@ impl Answer {
             Answer::Steps(steps) => format!("steps {steps}"),
             Answer::Look { number, part } => {
                 format!("look {number} {} {:08x}", part.len(), digest(part))
+            }
+            Answer::Place { number, place: Place { cylinder, head, sector } } => {
+                format!("place {number} {cylinder} {head} {sector}")
             }
             Answer::Fields(fields) => format!("fields{}", in_decimal(fields)),
             Answer::View { number, fields } => format!("view {number}{}", in_decimal(fields)),

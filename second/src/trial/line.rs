@@ -1,7 +1,7 @@
 //! One line of the case format: read from text, written as text.
 //! The words and limits are those of the format's own page.
 
-use crate::board::Drive;
+use crate::drive::Drive;
 use crate::record::Record;
 use std::fmt;
 
@@ -37,6 +37,7 @@ pub enum Line {
     Written(u64),
     Steps,
     Look(u64),
+    Place(u64),
     Fields(u64),
     View(u64),
     LentWalk(u64),
@@ -108,10 +109,11 @@ fn setting_line(word: &str, numbers: &[u64]) -> Result<Option<Line>, String> {
         ("disk", [offset, rest @ ..]) if !rest.is_empty() => {
             Line::Disk { offset: *offset, bytes: bytes(rest, MOST_PATCH)? }
         }
-        ("drive", [cylinder, head, sector, protected]) => Line::Drive(Drive {
+        ("drive", [cylinder, head, sector, last, protected]) => Line::Drive(Drive {
             max_cylinder: up_to(BITS_16, *cylinder)? as u16,
             max_head: byte(*head)?,
             max_sector: byte(*sector)?,
+            last_head_max_sector: byte(*last)?,
             protected: up_to(1, *protected)? == 1,
         }),
         ("record", [place, fields @ ..]) if fields.len() == 7 => {
@@ -174,6 +176,7 @@ fn calling_line(word: &str, numbers: &[u64]) -> Result<Option<Line>, String> {
         ("written", [budget]) => Line::Written(*budget),
         ("steps", []) => Line::Steps,
         ("look", [sector]) => Line::Look(up_to(BITS_32, *sector)?),
+        ("place", [sector]) => Line::Place(up_to(BITS_32, *sector)?),
         ("fields", [address]) => Line::Fields(up_to(BITS_32, *address)?),
         ("view", [address]) => Line::View(up_to(BITS_32, *address)?),
         ("lentwalk", [start]) => Line::LentWalk(up_to(BITS_32, *start)?),
@@ -219,8 +222,9 @@ impl fmt::Display for Line {
 }
 
 fn write_drive(out: &mut fmt::Formatter<'_>, drive: &Drive) -> fmt::Result {
-    let Drive { max_cylinder, max_head, max_sector, protected } = drive;
-    write!(out, "drive {max_cylinder} {max_head} {max_sector} {}", u8::from(*protected))
+    let Drive { max_cylinder, max_head, max_sector, last_head_max_sector, protected } = drive;
+    write!(out, "drive {max_cylinder} {max_head} {max_sector} {last_head_max_sector}")?;
+    write!(out, " {}", u8::from(*protected))
 }
 
 fn write_calling(out: &mut fmt::Formatter<'_>, line: &Line) -> fmt::Result {
@@ -234,6 +238,7 @@ fn write_calling(out: &mut fmt::Formatter<'_>, line: &Line) -> fmt::Result {
         Line::Written(budget) => write!(out, "written {budget}"),
         Line::Steps => write!(out, "steps"),
         Line::Look(sector) => write!(out, "look {sector}"),
+        Line::Place(sector) => write!(out, "place {sector}"),
         Line::Fields(address) => write!(out, "fields {address}"),
         Line::View(address) => write!(out, "view {address}"),
         Line::LentWalk(start) => write!(out, "lentwalk {start}"),

@@ -6,6 +6,7 @@ use crate::board::{Board, SECTOR_BYTES};
 use crate::iopb::{fields_at, view};
 use crate::look::{look, look_number};
 use crate::pick::pick;
+use crate::place::place;
 use crate::record::{Record, MOST_COMMANDS};
 use crate::run::{run_picks, run_written};
 use crate::trial::answer::Answer;
@@ -82,6 +83,10 @@ impl State {
                 number: look_number(&self.board, *sector),
                 part: look(&self.board, *sector).to_vec(),
             },
+            Line::Place(sector) => {
+                let (number, place) = place(&self.board.drive, *sector);
+                Answer::Place { number, place }
+            }
             Line::Fields(address) => Answer::Fields(fields_at(&self.board, *address)),
             Line::View(address) => {
                 let (number, fields) = view(&self.board, *address);

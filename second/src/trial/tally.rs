@@ -6,6 +6,7 @@ use crate::conflict::{data_bytes, meet, sectors, status_bytes};
 use crate::iopb::fields_at;
 use crate::record::{causes, Cause, Record, MOST_COMMANDS};
 use crate::trial::answer::Answer;
+use crate::trial::last_head;
 use crate::trial::line::Line;
 use crate::trial::state::State;
 use crate::walk::WalkReply;
@@ -63,6 +64,12 @@ impl Tally {
         *self.counts.get_mut(name).unwrap_or_else(|| panic!("no row {name}")) += 1;
     }
 
+    fn add_all<Name: AsRef<str>>(&mut self, names: Vec<Name>) {
+        for name in names {
+            self.add(name.as_ref());
+        }
+    }
+
     /// Counts one line: the table before it, and the state after it.
     pub fn see(&mut self, before: &[Record], state: &State, line: &Line, answer: &Answer) {
         match answer {
@@ -71,6 +78,7 @@ impl Tally {
             Answer::Walk { word, reply } => self.see_walk(state, word, reply),
             Answer::Pick { word, number } => {
                 self.add(&format!("{word} {number}"));
+                self.see_one(state, word, *number);
                 if let Line::Pick(place) | Line::LentPick(place) = line {
                     self.see_pick(before, *place, *number);
                 }
@@ -78,6 +86,7 @@ impl Tally {
             }
             Answer::Picks(reply) => {
                 self.add(&format!("picks {}", reply.number));
+                self.see_one(state, "picks", reply.number);
                 if let Line::Picks(places) = line {
                     self.see_list(before, places, &reply.numbers);
                 }
@@ -86,10 +95,24 @@ impl Tally {
             }
             Answer::Written(reply) => {
                 self.add(&format!("written {}", reply.number));
+                self.see_one(state, "written", reply.number);
                 self.see_finished(reply.number, reply.finished);
                 self.see_causes(state, reply.number);
             }
-            Answer::Look { number, .. } => self.add(&format!("look {number}")),
+            Answer::Look { number, .. } => {
+                self.add(&format!("look {number}"));
+                self.see_one(state, "look", *number);
+                if let Line::Look(sector) = line {
+                    self.add_all(last_head::look_rows(&state.board.drive, *sector, *number));
+                }
+            }
+            Answer::Place { number, place } => {
+                self.add(&format!("place {number}"));
+                if let Line::Place(sector) = line {
+                    let drive = &state.board.drive;
+                    self.add_all(last_head::place_rows(drive, *sector, *number, place));
+                }
+            }
             Answer::Fields(_) => self.add("fields"),
             Answer::View { number, .. } => self.add(&format!("view {number}")),
             Answer::Deck(reply) => self.see_deck(reply),
@@ -102,19 +125,34 @@ impl Tally {
             let (last, earlier) = reply.reached.split_last().expect("an IOPB was reached");
             self.add(if earlier.contains(last) { LOOP } else { OVERLAP });
         }
+        self.see_one(state, word, reply.number);
         if reply.number != 0 {
             return;
         }
         self.add(&format!("chain of {}", reply.commands));
-        for record in &state.table[..reply.commands as usize] {
+        let drive = &state.board.drive;
+        self.add_all(last_head::drive_rows(drive));
+        let records = &state.table[..reply.commands as usize];
+        for (record, address) in records.iter().zip(&reply.reached) {
             self.add(&format!("code {:02X}", record.code));
-        }
-        for address in &reply.reached {
             let fields = fields_at(&state.board, *address);
+            self.add_all(last_head::command_rows(drive, &fields, record));
             if fields.next % 2 == 1 {
                 self.add(if fields.chen == 1 { ODD_CHAINED } else { ODD_ALONE });
             }
         }
+    }
+
+    /// A call that got 1. A look does not ask for memory, and only the lent
+    /// forms ask for the length of the lent table.
+    fn see_one(&mut self, state: &State, word: &str, number: u8) {
+        if number != 1 {
+            return;
+        }
+        let memory_right = word == "look" || state.board.memory_right();
+        let table_right = !word.starts_with("lent") || state.lent as u64 >= MOST_COMMANDS;
+        let others_right = memory_right && table_right;
+        self.add_all(last_head::refused_one_rows(&state.board, word, others_right));
     }
 
     fn see_finished(&mut self, number: u8, finished: bool) {
@@ -167,6 +205,7 @@ impl Tally {
             return;
         }
         let found = causes(&state.board, &state.table, state.commands);
+        self.add_all(last_head::refused_nine_rows(&state.board, &state.table, state.commands));
         for (cause, name) in CAUSES {
             if found.contains(&cause) {
                 self.add(&format!("refused 9: {name}"));
@@ -220,6 +259,7 @@ fn all_names() -> Vec<String> {
         ("pick in a list", vec![0, 6, 7, 8]),
         ("written", vec![0, 1, 9]),
         ("look", vec![0, 1, 10]),
+        ("place", vec![0, 1, 10]),
         ("view", vec![0, 2, 3]),
     ] {
         names.extend(numbers.iter().map(|number| format!("{word} {number}")));
@@ -233,6 +273,7 @@ fn all_names() -> Vec<String> {
     names.extend([LOOP, OVERLAP, ODD_CHAINED, ODD_ALONE].map(String::from));
     names.extend(CAUSES.iter().map(|(_, name)| format!("refused 9: {name}")));
     names.extend(CAUSES.iter().map(|(_, name)| format!("refused 9: {name}, alone")));
+    names.extend(last_head::names());
     // The bench's sizes are right and it starts at 0, so 1 and 2 cannot come.
     names.extend(
         ["bench deck", "bench chain 3", "bench chain 4", "bench chain 5"].map(String::from),

@@ -50,7 +50,7 @@ fn code_order(script: &mut Script) {
 }
 
 /// Links blocks 32 bytes apart, walks and runs them, and shows each status.
-fn run_chain(script: &mut Script, blocks: &[Block]) {
+pub fn run_chain(script: &mut Script, blocks: &[Block]) {
     for (k, block) in blocks.iter().enumerate() {
         let k = k as u64;
         let next = 32 * (k + 1);

@@ -1,11 +1,15 @@
-//! Further cases made by hand, at every edge of document 01 and past it; each
-//! file here has one subject.
+//! Further cases made by hand, at every edge of document 01 and of the last
+//! head's own maximum, and past it; each file here has one subject.
 
 pub mod closes;
 pub mod codes;
 pub mod conflicts;
 pub mod decks;
+pub mod last_head;
+pub mod last_head_sizes;
 pub mod nines;
+pub mod over_ends;
+pub mod places;
 pub mod runs;
 pub mod shortcuts;
 pub mod sizes;
@@ -34,6 +38,10 @@ pub fn all_edges(script: &mut Script) {
     conflicts::all(script);
     shortcuts::all(script);
     decks::all(script);
+    last_head::all(script);
+    over_ends::all(script);
+    last_head_sizes::all(script);
+    places::all(script);
 }
 
 /// Memory of a length, with a pattern.

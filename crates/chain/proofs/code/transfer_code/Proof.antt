@@ -31,7 +31,7 @@ abbrev entry-4 : tie.Else4 → tie.Start
 entry-4 c = entry-3 (c .before .before .before)
 
 abbrev entry-5 : tie.Else5 → tie.Start
-entry-5 c = entry-4 (c .before .before .before)
+entry-5 c = entry-4 (c .before .before)
 
 abbrev entry-6 : tie.Else6 → tie.Start
 entry-6 c = entry-5 (c .before .before)
@@ -55,7 +55,7 @@ passed-4 : (c : tie.Else4) → Passed 4 (entry-4 c)
 passed-4 c = passed-3 (c .before .before .before) ∙ pass _ _ _ (le-ltb _ _ (c .if4 .left))
 
 passed-5 : (c : tie.Else5) → Passed 5 (entry-5 c)
-passed-5 c = passed-4 (c .before .before .before) ∙ pass _ _ _ (le-ltb _ _ (c .if5 .left))
+passed-5 c = passed-4 (c .before .before) ∙ pass _ _ _ (sym (c .before .sector-above .ensures) ∙ c .if5 .left)
 
 passed-6 : (c : tie.Else6) → Passed 6 (entry-6 c)
 passed-6 c = passed-5 (c .before .before) ∙ pass _ _ _ (sym (c .before .past-drive .ensures) ∙ c .if6 .left)
@@ -78,8 +78,11 @@ returns-3 c = sym (passed-2 (c .before .before .before) ∙ stop _ _ _ (lt-ltb _
 returns-4 : tie.Need-returns-4
 returns-4 c = sym (passed-3 (c .before .before .before) ∙ stop _ _ _ (lt-ltb _ _ (c .if4 .taken)))
 
+sector-above-requires : tie.Need-sector-above-requires
+sector-above-requires c κs = search needs
+
 returns-5 : tie.Need-returns-5
-returns-5 c = sym (passed-4 (c .before .before .before) ∙ stop _ _ _ (lt-ltb _ _ (c .if5 .taken)))
+returns-5 c = sym (passed-4 (c .before .before) ∙ stop _ _ _ (sym (c .before .sector-above .ensures) ∙ c .if5 .taken))
 
 past-drive-requires : tie.Need-past-drive-requires
 past-drive-requires c κs = search needs
@@ -110,6 +113,7 @@ transfer-code-spec =
     returns-2
     returns-3
     returns-4
+    sector-above-requires
     returns-5
     past-drive-requires
     returns-6

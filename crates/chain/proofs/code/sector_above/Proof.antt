@@ -1,0 +1,14 @@
+-- `chain::code::sector_above` meets its contract: the maximum is what the call ensures.
+use borrow.Author.Needs.{needs}
+use mathlib.Core.Path.{refl}
+use Rattle.chain.proofs.code.sector_above.Statement.{statement}
+use Rattle.chain.proofs.code.sector_above.Tie as tie
+
+maximum-on-requires : tie.Need-maximum-on-requires
+maximum-on-requires c κs = search needs
+
+returns : tie.Need-returns
+returns c = rw (c .before .maximum-on .ensures) refl
+
+pub sector-above-spec : {M : Type 1} → statement M
+sector-above-spec = tie.close (tie.spec maximum-on-requires returns)

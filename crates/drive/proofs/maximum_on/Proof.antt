@@ -1,0 +1,15 @@
+-- `drive::maximum_on` meets its contract: the head is the last, or another.
+use mathlib.Core.Path.{sym, ap, _∙_}
+use Rattle.meaning.specs.Sectors.{maximumOn}
+use Rattle.meaning.proofs.Numbering.{on-last, on-other}
+use Rattle.drive.proofs.maximum_on.Statement.{statement}
+use Rattle.drive.proofs.maximum_on.Tie as tie
+
+returns : tie.Need-returns
+returns c = sym (ap (maximumOn _) (c .if1 .taken) ∙ on-last _)
+
+returns-2 : tie.Need-returns-2
+returns-2 c = sym (on-other _ _ (c .if1 .left))
+
+pub maximum-on-spec : {M : Type 1} → statement M
+maximum-on-spec = tie.close (tie.spec returns returns-2)
