@@ -74,7 +74,7 @@ pub(crate) fn first_sector(c: Copied, d: Drive) -> u32
 fn sector_above(c: Copied, d: Drive) -> bool
     ensures { λ r. ⌜ r ≡ ltb (maximumOn d (c .head)) (c .sector) ⌝ }
 {
-    drive::maximum_on(d, c.head) < c.sector
+    drive::above(drive::maximum_on(d, c.head), c.sector as u32)
 }
 
 // The first sector number + count is more than the drive has.

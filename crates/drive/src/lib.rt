@@ -22,13 +22,13 @@ pub const SECTOR_BYTES: u64 = 512;
 pub const IMAGE_LIMIT: u64 = 16_777_216;
 
 // The maximum sector of a head: the last head of a cylinder has its own.
-pub fn maximum_on(d: Drive, head: u8) -> u8
-    ensures { λ r. ⌜ r ≡ maximumOn d head ⌝ }
+pub fn maximum_on(d: Drive, head: u8) -> Maximum
+    ensures { λ r. ⌜ r .0 ≡ maximumOn d head ⌝ }
 {
     if head == d.head {
-        return d.last_sector;
+        return Maximum(d.last_sector as u32);
     }
-    d.sector
+    Maximum(d.sector as u32)
 }
 
 // Whether a drive can be: its last head has no more sectors than the others.
@@ -39,13 +39,14 @@ pub fn maxima_right(d: Drive) -> bool
 }
 
 // How many sectors a cylinder has: a whole track for each head before the last, and the last head's.
-pub fn per_cylinder(d: Drive) -> u32
-    ensures { λ r. ⌜ r ≡ perCylinder d ⌝ }
-    ensures within { λ r. ⌜ (1 ≤ r) × (r ≤ 65_536) ⌝ }
+pub fn per_cylinder(d: Drive) -> Count
+    ensures { λ r. ⌜ r .0 ≡ perCylinder d ⌝ }
+    ensures within { λ r. ⌜ (1 ≤ r .0) × (r .0 ≤ 65_536) ⌝ }
 {
     let on_track = d.sector as u32 + 1;
     let on_last_head = d.last_sector as u32 + 1;
-    d.head as u32 * on_track + on_last_head
+    let on_cylinder = d.head as u32 * on_track + on_last_head;
+    Count(on_cylinder as u64)
 }
 
 // How many sectors the drive has. 65,536 cylinders of at most 65,536 sectors are at most 2 to the 32: they fit.
@@ -54,7 +55,7 @@ pub fn sectors(d: Drive) -> Count
     ensures within { λ r. ⌜ (1 ≤ r .0) × (r .0 ≤ 4_294_967_296) ⌝ }
 {
     let cylinders = d.cylinder as u64 + 1;
-    Count(cylinders * per_cylinder(d) as u64)
+    Count(cylinders * per_cylinder(d).0)
 }
 
 // The largest sector number of the drive.
@@ -83,7 +84,7 @@ pub fn past_end(count: Count, first: u32, sectors: u16) -> bool
 pub fn sector_number(d: Drive, cylinder: u16, head: u8, sector: u8) -> u32
     ensures { λ r. ⌜ r ≡ sectorNumber d cylinder head sector ⌝ }
 {
-    let on_cylinder = per_cylinder(d);
+    let on_cylinder = per_cylinder(d).0 as u32;
     let on_track = d.sector as u32 + 1;
     cylinder as u32 * on_cylinder + head as u32 * on_track + sector as u32
 }
@@ -93,7 +94,7 @@ fn place_at(d: Drive, sector: u32) -> Place
     requires { ⌜ (maximaRight d ≡ true) × (sector < sectorCount d) ⌝ }
     ensures { λ r. ⌜ r ≡ placeOf d sector ⌝ }
 {
-    let on_cylinder = per_cylinder(d);
+    let on_cylinder = per_cylinder(d).0 as u32;
     let on_track = d.sector as u32 + 1;
     let rest = sector % on_cylinder;
     Place {

@@ -4,7 +4,7 @@ use mathlib.Core.Path.{refl}
 use Prim.Native.Nat.{ℕ, _*_, _≤_}
 use native.Mathlib.Nat.{mul-le-mul, add-le-add}
 use native.Mathlib.Omega.{arith}
-use mir.Syntax.{w32}
+use mir.Syntax.{w32, w64}
 use Rattle.meaning.specs.Sectors.{perCylinder}
 use Rattle.drive.proofs.Products.{product-fits, sum-fits}
 use Rattle.drive.proofs.per_cylinder.Statement.{statement}
@@ -25,14 +25,17 @@ cast-on-last-head c = search needs
 add-on-last-head : tie.Need-add-on-last-head
 add-on-last-head c = search needs
 
-cast-result : tie.Need-cast-result
-cast-result c = search needs
+cast-on-cylinder : tie.Need-cast-on-cylinder
+cast-on-cylinder c = search needs
 
-mul-result : tie.Need-mul-result
-mul-result c = product-fits w32 255 256 _ _ (omega arith) (omega arith) tt
+mul-on-cylinder : tie.Need-mul-on-cylinder
+mul-on-cylinder c = product-fits w32 255 256 _ _ (omega arith) (omega arith) tt
 
-add-result : tie.Need-add-result
-add-result c = sum-fits w32 (255 * 256) 256 _ _ (tracks (omega arith) (omega arith)) (omega arith) tt
+add-on-cylinder : tie.Need-add-on-cylinder
+add-on-cylinder c = sum-fits w32 (255 * 256) 256 _ _ (tracks (omega arith) (omega arith)) (omega arith) tt
+
+cast-t7 : tie.Need-cast-t7
+cast-t7 c = sum-fits w64 (255 * 256) 256 _ _ (tracks (omega arith) (omega arith)) (omega arith) tt
 
 returns : tie.Need-returns
 unfolding perCylinder
@@ -46,7 +49,8 @@ per-cylinder-spec =
     add-on-track
     cast-on-last-head
     add-on-last-head
-    cast-result
-    mul-result
-    add-result
+    cast-on-cylinder
+    mul-on-cylinder
+    add-on-cylinder
+    cast-t7
     returns)

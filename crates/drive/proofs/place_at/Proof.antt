@@ -21,14 +21,17 @@ within d sector n e h =
     rw e (o .cylinder-in, o .head-in, omega (arith, o .sector-in))
 
 -- the same, from where the casts stand
-from : (c : tie.After-struct-known)
-    → let a = c .before .before .args in
-    let n = c .before .per-cylinder .result in
+from : (c : tie.After-struct-known2)
+    → let a = c .before .before .before .args in
+    let n = c .before .before .per-cylinder .result .0 in
     (a .sector / n ≤ a .d .cylinder) × (a .sector % n / perTrack (a .d) ≤ a .d .head) × (a .sector % n % perTrack (a .d) ≤ a .d .sector)
-from c = within _ _ _ (c .before .per-cylinder .ensures .0) (c .before .before .pre)
+from c = within _ _ _ (c .before .before .per-cylinder .ensures .0) (c .before .before .before .pre)
 
 per-cylinder-requires : tie.Need-per-cylinder-requires
 per-cylinder-requires c κs = search needs
+
+cast-on-cylinder : tie.Need-cast-on-cylinder
+cast-on-cylinder c = search needs
 
 cast-on-track : tie.Need-cast-on-track
 cast-on-track c = search needs
@@ -39,40 +42,41 @@ add-on-track c = search needs
 rem-rest : tie.Need-rem-rest
 rem-rest c = search needs
 
-div-t6 : tie.Need-div-t6
-div-t6 c = search needs
+div-t7 : tie.Need-div-t7
+div-t7 c = search needs
 
-cast-t7 : tie.Need-cast-t7
-cast-t7 c = let h = from c in search needs
+cast-t8 : tie.Need-cast-t8
+cast-t8 c = let h = from c in search needs
 
-div-t8 : tie.Need-div-t8
-div-t8 c = search needs
+div-t9 : tie.Need-div-t9
+div-t9 c = search needs
 
-cast-t9 : tie.Need-cast-t9
-cast-t9 c = let h = from c in search needs
+cast-t10 : tie.Need-cast-t10
+cast-t10 c = let h = from c in search needs
 
-rem-t10 : tie.Need-rem-t10
-rem-t10 c = search needs
+rem-t11 : tie.Need-rem-t11
+rem-t11 c = search needs
 
-cast-t11 : tie.Need-cast-t11
-cast-t11 c = let h = from c in search needs
+cast-t12 : tie.Need-cast-t12
+cast-t12 c = let h = from c in search needs
 
 returns : tie.Need-returns
 unfolding placeOf
-returns c = rw (c .before .per-cylinder .ensures .0) refl
+returns c = rw (c .before .before .per-cylinder .ensures .0) refl
 
 pub place-at-spec : {M : Type 1} → statement M
 place-at-spec =
     tie.close
     (tie.spec
     per-cylinder-requires
+    cast-on-cylinder
     cast-on-track
     add-on-track
     rem-rest
-    div-t6
-    cast-t7
-    div-t8
-    cast-t9
-    rem-t10
-    cast-t11
+    div-t7
+    cast-t8
+    div-t9
+    cast-t10
+    rem-t11
+    cast-t12
     returns)

@@ -20,6 +20,9 @@ tracks x y = mul-le-mul {n₂ = 255} {m₂ = 256} x y
 per-cylinder-requires : tie.Need-per-cylinder-requires
 per-cylinder-requires c κs = search needs
 
+cast-on-cylinder : tie.Need-cast-on-cylinder
+cast-on-cylinder c = search needs
+
 cast-on-track : tie.Need-cast-on-track
 cast-on-track c = search needs
 
@@ -43,13 +46,14 @@ add-result-2 c =
 
 returns : tie.Need-returns
 unfolding sectorNumber
-returns c = rw (c .before .per-cylinder .ensures .0) refl
+returns c = rw (c .before .before .per-cylinder .ensures .0) refl
 
 pub sector-number-spec : {M : Type 1} → statement M
 sector-number-spec =
     tie.close
     (tie.spec
     per-cylinder-requires
+    cast-on-cylinder
     cast-on-track
     add-on-track
     mul-result

@@ -19,16 +19,13 @@ add-cylinders c = search needs
 per-cylinder-requires : tie.Need-per-cylinder-requires
 per-cylinder-requires c κs = search needs
 
-cast-t3 : tie.Need-cast-t3
-cast-t3 c = search needs
-
-mul-t5 : tie.Need-mul-t5
-mul-t5 c = product-fits w64 65536 65536 _ _ (omega arith) (omega arith) tt
+mul-t3 : tie.Need-mul-t3
+mul-t3 c = product-fits w64 65536 65536 _ _ (omega arith) (omega arith) tt
 
 returns : tie.Need-returns
 unfolding sectorCount
 returns c =
-    (rw (c .per-cylinder .ensures .0) refl, (one-le-mul (omega arith) (omega arith), mul-le-mul {n₂ = 65536} {m₂ = 65536} (omega arith) (omega arith)))
+    (rw (c .before .per-cylinder .ensures .0) refl, (one-le-mul (omega arith) (omega arith), mul-le-mul {n₂ = 65536} {m₂ = 65536} (omega arith) (omega arith)))
 
 pub sectors-spec : {M : Type 1} → statement M
-sectors-spec = tie.close (tie.spec cast-cylinders add-cylinders per-cylinder-requires cast-t3 mul-t5 returns)
+sectors-spec = tie.close (tie.spec cast-cylinders add-cylinders per-cylinder-requires mul-t3 returns)
