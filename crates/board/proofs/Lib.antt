@@ -1,6 +1,5 @@
 -- Laws beneath the proofs of this crate. First a store of two lent slices, and steps on it, one or several at once; then the
--- search for a blocking command, and what the tests of a pick show; then tables that differ in their steps taken, and the loops of the two runs; last
--- what a pick and a run tell of a caller's whole table.
+-- search for a blocking command, and what the tests of a pick show; then tables that differ in their steps taken, and the loops of the two runs.
 pub mod Edge
 pub mod Copying
 pub mod Moving
@@ -13,6 +12,3 @@ pub mod Runs
 pub mod ByPicks
 pub mod Again
 pub mod Written
-pub mod Longer
-pub mod Kept
-pub mod Faces

@@ -1,6 +1,6 @@
 -- What a pick and a run answer and change, beneath the face that takes a table by value and the one that takes it lent: of a pick the
 -- record at its place, of a run the steps taken of each record. s is the state of 32 records that they are handed, `length` how many
--- records the caller's table has, and u the store after. proofs/Faces says what this gives of the caller's whole table.
+-- records the caller's table has, and u the store after. The crate `tables` says what this gives of the caller's whole table.
 use mathlib.Core.Path.{_≡_}
 use Prim.Native.Nat.{ℕ}
 use mathlib.Core.Bool.{false, cond}

@@ -7,7 +7,6 @@ use chain::sizes;
 use command::sound;
 use command::touch;
 use meaning::Drive;
-use meaning::PickedTable;
 use meaning::Record;
 ghost use mathlib.Core.Path.{_≡_};
 ghost use mathlib.Core.Bool.{_||_};
@@ -99,28 +98,5 @@ pub fn pick_record<'a>(
     PickedRecord {
         number: 0,
         after: table::with_taken(r, r.taken + 1),
-    }
-}
-
-// A pick on a table by value: on 0 one step at its place; on any other number nothing is changed.
-pub fn pick(
-    memory: &mut [u8],
-    image: &mut [u8],
-    d: Drive,
-    table: [Record; 32],
-    commands: usize,
-    place: usize,
-) -> PickedTable
-    ensures { λ r. ⌜ pick.PickGives d commands place (stateOf (now (memory .entry)) (now (image .entry)) table) (r .number) (stateOf (now (memory .exit)) (now (image .exit)) (r .table)) ⌝ }
-{
-    let picked = pick_record(memory, image, d, table, RECORDS, commands, place);
-    let stepped = picked.after;
-    let mut after = table;
-    if picked.number == 0 {
-        after[place] = stepped;
-    }
-    PickedTable {
-        number: picked.number,
-        table: after,
     }
 }

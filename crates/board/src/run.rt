@@ -8,7 +8,6 @@ use command::sound;
 use command::touch;
 use meaning::Drive;
 use meaning::Ran;
-use meaning::RanTable;
 use meaning::Record;
 ghost use mathlib.Core.Path.{_≡_};
 ghost use Prim.Native.Nat.{_+_, _*_, _≤_, _<_, min};
@@ -266,44 +265,4 @@ pub fn written_taken<'a>(
         finished: seen.left <= budget,
     };
     RanTaken { ran, taken }
-}
-
-// A run by picks on a table by value: a refused pick is passed over, and counted. On 1 and 9 nothing is changed.
-pub fn run_picks(
-    memory: &mut [u8],
-    image: &mut [u8],
-    d: Drive,
-    table: [Record; 32],
-    commands: usize,
-    picks: &[u8],
-) -> RanTable
-    ensures { λ r. ⌜ run.RunGives d commands (run.byPicks d commands (now (picks .entry))) (stateOf (now (memory .entry)) (now (image .entry)) table) (r .ran) (stateOf (now (memory .exit)) (now (image .exit)) (r .table)) ⌝ }
-{
-    let r = picks_taken(memory, image, d, table, RECORDS, commands, picks);
-    let ran = r.ran;
-    let taken = r.taken;
-    RanTable {
-        ran,
-        table: table::table_with(table, taken),
-    }
-}
-
-// A run as written on a table by value, within a step budget. On 1 and 9 nothing is changed.
-pub fn run_written(
-    memory: &mut [u8],
-    image: &mut [u8],
-    d: Drive,
-    table: [Record; 32],
-    commands: usize,
-    budget: u64,
-) -> RanTable
-    ensures { λ r. ⌜ run.RunGives d commands (run.asWritten d commands budget) (stateOf (now (memory .entry)) (now (image .entry)) table) (r .ran) (stateOf (now (memory .exit)) (now (image .exit)) (r .table)) ⌝ }
-{
-    let r = written_taken(memory, image, d, table, RECORDS, commands, budget);
-    let ran = r.ran;
-    let taken = r.taken;
-    RanTable {
-        ran,
-        table: table::table_with(table, taken),
-    }
 }

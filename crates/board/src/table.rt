@@ -12,16 +12,3 @@ pub fn with_taken(r: Record, taken: u32) -> Record
     s.taken = taken;
     s
 }
-
-// The table with these steps taken.
-pub(crate) fn table_with(table: [Record; 32], taken: [u32; 32]) -> [Record; 32]
-    ensures { λ t. ⌜ t ≡ tableWith taken table ⌝ }
-{
-    let mut after = table;
-    let mut k = 0;
-    while k < RECORDS {
-        after[k] = with_taken(after[k], taken[k]);
-        k += 1;
-    }
-    after
-}

@@ -59,7 +59,7 @@ fn run_chain(memory: &mut [u8], image: &mut [u8], d: Drive) -> Report
     let table = w.table;
     let commands = walked.commands;
     let budget = board::run::chain_steps(table, commands);
-    let run = board::run::run_written(memory, image, d, table, commands, budget);
+    let run = tables::run_written(memory, image, d, table, commands, budget);
     let ran = run.ran;
     Report {
         outcome: Outcome::Ran {

@@ -22,8 +22,8 @@ use Rattle.meaning.specs.Run.{Tally, atStart, onePick, picksFrom, byPicks, asWr
 use Rattle.meaning.proofs.Means.{Means, holds, fails, means-lt}
 use Rattle.meaning.proofs.Numbers.{full-table, run-passed, most-32}
 use Rattle.meaning.proofs.Walks.{chain-most}
-use Rattle.board.proofs.Longer.{longer, behind, run-longer, pick-longer, by-picks-longer, as-written-longer, finished-longer}
-use Rattle.board.proofs.Kept.{forgotten, by-picks-kept, as-written-kept, length-kept}
+use Rattle.tables.proofs.Longer.{longer, behind, run-longer, pick-longer, by-picks-longer, as-written-longer, finished-longer}
+use Rattle.tables.proofs.Kept.{forgotten, by-picks-kept, as-written-kept, length-kept}
 use Rattle.firmware.specs.Agree.{frontOf, restOf, before, TwoFormsAgree}
 
 -- ---- a state is its front before its rest

@@ -20,7 +20,7 @@ use Rattle.meaning.proofs.Numbers.{pick-passed, run-passed, place-free, table-l
 use Rattle.board.specs.declared.pick.PickedRecord.{PickedRecord}
 use Rattle.board.specs.declared.run.RanTaken.{RanTaken}
 use Rattle.board.specs.Changes.{PickChanges, RunTakes}
-use Rattle.board.proofs.Faces.{Begins, pick-face, picks-face, written-face}
+use Rattle.tables.proofs.Faces.{Begins, pick-face, picks-face, written-face}
 use Rattle.firmware.specs.Laid.{over, copiedOut, withRecord, withSteps}
 use Rattle.firmware.proofs.Laying.{length-over}
 

@@ -1,10 +1,10 @@
--- `board::run::run_written` meets its contract: the steps taken that the run hands back are laid into the table.
+-- `tables::run_written` meets its contract: the steps taken that the run hands back are laid into the table.
 use native.Mathlib.Omega.{arith}
 use Rattle.meaning.specs.State.{stateOf}
-use Rattle.board.proofs.Faces.{written-by-value}
+use Rattle.tables.proofs.Faces.{written-by-value}
 use borrow.Author.Needs.{needs}
-use Rattle.board.proofs.run.run_written.Statement.{statement}
-use Rattle.board.proofs.run.run_written.Tie as tie
+use Rattle.tables.proofs.run_written.Statement.{statement}
+use Rattle.tables.proofs.run_written.Tie as tie
 
 written-taken-requires : tie.Need-written-taken-requires
 written-taken-requires c κs = search needs

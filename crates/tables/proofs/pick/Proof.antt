@@ -1,13 +1,13 @@
--- `board::pick::pick` meets its contract: on 0 the record that the pick changed is put in its place.
+-- `tables::pick` meets its contract: on 0 the record that the pick changed is put in its place.
 use mathlib.Core.Path.{sym}
 use native.Mathlib.Omega.{arith}
 use borrow.Author.Tests.{eq-eqb, ne-eqb}
 use Rattle.meaning.specs.State.{stateOf}
 use Rattle.meaning.proofs.Rows.{pass, stop}
-use Rattle.board.proofs.Faces.{pick-by-value, laid-at}
+use Rattle.tables.proofs.Faces.{pick-by-value, laid-at}
 use borrow.Author.Needs.{needs}
-use Rattle.board.proofs.pick.pick.Statement.{statement}
-use Rattle.board.proofs.pick.pick.Tie as tie
+use Rattle.tables.proofs.pick.Statement.{statement}
+use Rattle.tables.proofs.pick.Tie as tie
 
 pick-record-requires : tie.Need-pick-record-requires
 pick-record-requires c κs = search needs

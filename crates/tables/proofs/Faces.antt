@@ -21,14 +21,14 @@ use Rattle.meaning.specs.Run.{Tally, atStart, byPicks, asWritten, runNumber, ra
 use Rattle.meaning.proofs.Rows.{pass, stop, or-later}
 use Rattle.meaning.proofs.Means.{Means, holds, fails, means-lt}
 use Rattle.meaning.proofs.Numbers.{run-passed, pick-passed, place-free, most-32}
 use Rattle.board.specs.declared.pick.PickedRecord.{PickedRecord}
 use Rattle.board.specs.declared.run.RanTaken.{RanTaken}
 use Rattle.board.specs.Changes.{tableWith, takenOf, handed, refusedRun, pickChanges, PickChanges, runTakes, RunTakes}
 use Rattle.board.proofs.Picking.{sizes-first, sizes-handed, handed-whole}
 use Rattle.board.proofs.Taken.{own-table, length-taken, with-append}
 use Rattle.board.proofs.Runs.{reply-refused, reply-accepted}
-use Rattle.board.proofs.Longer.{longer, behind, run-longer, pick-longer, by-picks-longer, as-written-longer, finished-longer}
-use Rattle.board.proofs.Kept.{forgotten, by-picks-kept, as-written-kept, length-kept, taken-says}
+use Rattle.tables.proofs.Longer.{longer, behind, run-longer, pick-longer, by-picks-longer, as-written-longer, finished-longer}
+use Rattle.tables.proofs.Kept.{forgotten, by-picks-kept, as-written-kept, length-kept, taken-says}
 
 -- all is the caller's table, of so many records; where there are 32 of them at least, t are its first 32
 pub record Begins (many : ℕ) (t all : List Record) : Type 0 where

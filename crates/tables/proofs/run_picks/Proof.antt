@@ -1,10 +1,10 @@
--- `board::run::run_picks` meets its contract: the steps taken that the run hands back are laid into the table.
+-- `tables::run_picks` meets its contract: the steps taken that the run hands back are laid into the table.
 use native.Mathlib.Omega.{arith}
 use Rattle.meaning.specs.State.{stateOf}
-use Rattle.board.proofs.Faces.{picks-by-value}
+use Rattle.tables.proofs.Faces.{picks-by-value}
 use borrow.Author.Needs.{needs}
-use Rattle.board.proofs.run.run_picks.Statement.{statement}
-use Rattle.board.proofs.run.run_picks.Tie as tie
+use Rattle.tables.proofs.run_picks.Statement.{statement}
+use Rattle.tables.proofs.run_picks.Tie as tie
 
 picks-taken-requires : tie.Need-picks-taken-requires
 picks-taken-requires c κs = search needs

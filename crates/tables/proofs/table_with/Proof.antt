@@ -1,10 +1,10 @@
--- `board::table::table_with` meets its contract: the records passed have their new steps taken, and the others are as they were.
+-- `tables::table_with` meets its contract: the records passed have their new steps taken, and the others are as they were.
 use Prim.Native.Nat.{_-_}
 use native.Mathlib.Omega.{arith}
 use Rattle.board.proofs.Taken.{Laying, laying-begin, laying-more, laying-end}
 use borrow.Author.Needs.{needs}
-use Rattle.board.proofs.table.table_with.Statement.{statement}
-use Rattle.board.proofs.table.table_with.Tie as tie
+use Rattle.tables.proofs.table_with.Statement.{statement}
+use Rattle.tables.proofs.table_with.Tie as tie
 
 abbrev Inv-loop : tie.InvT-loop
 Inv-loop taken after₀ k₀ after k =

@@ -1,0 +1,93 @@
+// The forms by value: a pick and both runs on a table that goes in and comes back by value. What they change is worked out in `board`, as it
+// is for a lent table, and laid here into the table.
+use board::pick;
+use board::run;
+use board::table;
+use meaning::Drive;
+use meaning::PickedTable;
+use meaning::RanTable;
+use meaning::Record;
+ghost use mathlib.Core.Path.{_≡_};
+ghost use Rattle.meaning.specs.State.{stateOf};
+ghost use Rattle.meaning.specs.Pick.{PickGives};
+ghost use Rattle.meaning.specs.Run.{RunGives, byPicks, asWritten};
+ghost use Rattle.board.specs.Changes.{tableWith};
+
+// How many records a table by value has: the most commands of a chain.
+const RECORDS: usize = chain::walk::MOST_COMMANDS;
+
+// The table with these steps taken.
+fn table_with(table: [Record; 32], taken: [u32; 32]) -> [Record; 32]
+    ensures { λ t. ⌜ t ≡ tableWith taken table ⌝ }
+{
+    let mut after = table;
+    let mut k = 0;
+    while k < RECORDS {
+        after[k] = table::with_taken(after[k], taken[k]);
+        k += 1;
+    }
+    after
+}
+
+// A pick on a table by value: on 0 one step at its place; on any other number nothing is changed.
+pub fn pick(
+    memory: &mut [u8],
+    image: &mut [u8],
+    d: Drive,
+    table: [Record; 32],
+    commands: usize,
+    place: usize,
+) -> PickedTable
+    ensures { λ r. ⌜ PickGives d commands place (stateOf (now (memory .entry)) (now (image .entry)) table) (r .number) (stateOf (now (memory .exit)) (now (image .exit)) (r .table)) ⌝ }
+{
+    let picked = pick::pick_record(memory, image, d, table, RECORDS, commands, place);
+    let stepped = picked.after;
+    let mut after = table;
+    if picked.number == 0 {
+        after[place] = stepped;
+    }
+    PickedTable {
+        number: picked.number,
+        table: after,
+    }
+}
+
+// A run by picks on a table by value: a refused pick is passed over, and counted. On 1 and 9 nothing is changed.
+pub fn run_picks(
+    memory: &mut [u8],
+    image: &mut [u8],
+    d: Drive,
+    table: [Record; 32],
+    commands: usize,
+    picks: &[u8],
+) -> RanTable
+    ensures { λ r. ⌜ RunGives d commands (byPicks d commands (now (picks .entry))) (stateOf (now (memory .entry)) (now (image .entry)) table) (r .ran) (stateOf (now (memory .exit)) (now (image .exit)) (r .table)) ⌝ }
+{
+    let r = run::picks_taken(memory, image, d, table, RECORDS, commands, picks);
+    let ran = r.ran;
+    let taken = r.taken;
+    RanTable {
+        ran,
+        table: table_with(table, taken),
+    }
+}
+
+// A run as written on a table by value, within a step budget. On 1 and 9 nothing is changed.
+pub fn run_written(
+    memory: &mut [u8],
+    image: &mut [u8],
+    d: Drive,
+    table: [Record; 32],
+    commands: usize,
+    budget: u64,
+) -> RanTable
+    ensures { λ r. ⌜ RunGives d commands (asWritten d commands budget) (stateOf (now (memory .entry)) (now (image .entry)) table) (r .ran) (stateOf (now (memory .exit)) (now (image .exit)) (r .table)) ⌝ }
+{
+    let r = run::written_taken(memory, image, d, table, RECORDS, commands, budget);
+    let ran = r.ran;
+    let taken = r.taken;
+    RanTable {
+        ran,
+        table: table_with(table, taken),
+    }
+}
