@@ -90,7 +90,7 @@ pub fn sector_number(d: Drive, cylinder: u16, head: u8, sector: u8) -> u32
 }
 
 // The place of a number that the drive has: its whole cylinders, then the whole tracks of what is left, then the sectors of what is left then.
-fn place_at(d: Drive, sector: u32) -> Place
+fn place_within(d: Drive, sector: u32) -> Place
     requires { ⌜ (maximaRight d ≡ true) × (sector < sectorCount d) ⌝ }
     ensures { λ r. ⌜ r ≡ placeOf d sector ⌝ }
 {
@@ -127,7 +127,7 @@ pub fn place_of(d: Drive, sector: u32) -> Placed
         };
     }
     Placed {
-        place: place_at(d, sector),
+        place: place_within(d, sector),
         number: 0,
     }
 }
@@ -136,14 +136,11 @@ pub fn place_of(d: Drive, sector: u32) -> Placed
 pub fn image_right(d: Drive, bytes: u64) -> bool
     ensures { λ r. ⌜ r ≡ imageRight d bytes ⌝ }
 {
-    if !maxima_right(d) {
-        return false;
-    }
     if IMAGE_LIMIT < bytes {
         return false;
     }
     let count = sectors(d).0;
-    bytes == SECTOR_BYTES * count
+    maxima_right(d) & (bytes == SECTOR_BYTES * count)
 }
 
 // The number of a look: 1 for an image of the wrong size, then 10 for no such sector, otherwise 0.

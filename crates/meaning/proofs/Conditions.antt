@@ -1,13 +1,13 @@
 -- Each condition means what its test computes: read off part by part with the laws of `Means`. And a record that number 9 lets pass,
 -- taken apart.
-use mathlib.Core.Path.{_≡_, sym, ap, _∙_}
+use mathlib.Core.Path.{_≡_}
 use mathlib.Core.Logic.{_⊎_, inl, inr}
 use Prim.Native.Nat.{ℕ, _+_, _*_, _≤_, _<_}
 use native.Mathlib.Nat.{one-le-mul}
 use native.Mathlib.Omega.{arith}
-use mathlib.Core.Bool.{Bool, true, false, not, _&&_, _||_, or-assoc}
+use mathlib.Core.Bool.{Bool, true, false, not, _&&_, or-assoc}
 use lib.ListN.{length}
-use lib.Dec.{ltb, leb, eqb}
+use lib.Dec.{leb, eqb}
 use Rattle.meaning.specs.declared.Drive.{Drive}
 use Rattle.meaning.specs.declared.Record.{Record}
 use Rattle.meaning.specs.Store.{memory, Store, theDisk}
@@ -19,7 +19,7 @@ use Rattle.meaning.specs.Code.{commandIn, read, write}
 use Rattle.meaning.specs.Command.{reads, writes, transfers, stepsOf, finished, noRecord}
 use Rattle.meaning.specs.Pick.{badTransfer, badRecord, spoiled}
 use Rattle.meaning.specs.Conditions.{MaximaWrong, ImageWrong, StoreWrong, SizesWrong, Reads, Writes, Finished, BadTransfer, BadRecord, Spoiled}
-use Rattle.meaning.proofs.Means.{Means, holds, fails, when-true, when-false, is-true, means-itself, means-and, means-or, means-or₃, means-not-and, means-above, means-other, means-lt, means-le, means-eq, means-some}
+use Rattle.meaning.proofs.Means.{Means, holds, fails, when-true, when-false, means-itself, means-and, means-or, means-or₃, means-not-and, means-above, means-other, means-lt, means-le, means-eq, means-some}
 
 -- ---- sizes
 

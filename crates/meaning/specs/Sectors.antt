@@ -18,7 +18,7 @@ imageLimit = 16_777_216
 abbrev pub countOf : ℕ → ℕ
 countOf maximum = maximum + 1
 
--- the sectors of the last head of a cylinder, which has a maximum of its own, and of every other (Drive 2)
+-- the sectors of a track, but for that of the last head of a cylinder, which has a maximum of its own (Drive 2)
 abbrev pub perTrack : Drive → ℕ
 perTrack d = countOf (d .sector)
 

@@ -1,21 +1,19 @@
 -- Places and numbers are one to one, and the rest of specs/Numbering: the laws of `meaning`, put together.
-use mathlib.Core.Path.{_≡_, refl, sym, ap, _∙_}
+use mathlib.Core.Path.{_≡_, sym, ap, _∙_}
 use mathlib.Core.Logic.{_≢_}
-use Prim.Native.Nat.{ℕ, _+_, _*_, _≤_}
+use Prim.Native.Nat.{ℕ, _+_, _*_}
 use native.Mathlib.Nat.{mul-assoc}
 use native.Mathlib.Omega.{arith}
-use mathlib.Core.Bool.{Bool, true, false, cond}
-use lib.Dec.{eqb}
+use mathlib.Core.Bool.{true}
 use Rattle.meaning.specs.declared.Drive.{Drive}
-use Rattle.meaning.specs.declared.Place.{Place}
-use Rattle.meaning.specs.Sectors.{countOf, perTrack, maximumOn, perCylinder, sectorCount, sectorNumber, maximaRight}
-use Rattle.meaning.specs.Place.{placeAt, OnDrive, numberOf, placeOf, placedNumber, placed}
+use Rattle.meaning.specs.Sectors.{countOf, perTrack, perCylinder, sectorCount, sectorNumber, maximaRight}
+use Rattle.meaning.specs.Place.{placeAt, placeOf, placedNumber, placed}
 use Rattle.meaning.specs.Conditions.{MaximaWrong}
 use Rattle.meaning.proofs.Means.{is-true, is-false, means-le, means-eq}
 use Rattle.meaning.proofs.Table.{otherwise, _&_, by-number}
 use Rattle.meaning.proofs.Conditions.{means-maxima}
 use Rattle.meaning.proofs.Numbering.{number-below, number-of-place, place-of-number, place-on-drive, follows, after-number, equal-cylinder, equal-maximum}
-use Rattle.promises.specs.Numbering.{OneToOne, PlacesAreNumbers, NextSector, StepsFollow, PlacedExactlyWhen, PlacedGives, AsBefore, EqualHeadsAsBefore}
+use Rattle.promises.specs.Numbering.{PlacesAreNumbers, NextSector, StepsFollow, PlacedExactlyWhen, PlacedGives, EqualHeadsAsBefore}
 use Rattle.promises.proofs.Numbers.{no-such-sector}
 
 -- maxima that are not wrong are right

@@ -1,4 +1,4 @@
--- `drive::place_of` meets its contract: each test decides a row of its numbers, and a number of 0 leaves what `place_at` asks.
+-- `drive::place_of` meets its contract: each test decides a row of its numbers, and a number of 0 leaves what `place_within` asks.
 use borrow.Author.Needs.{needs}
 use mathlib.Core.Path.{sym, ap, _∙_}
 use Prim.Native.Nat.{ℕ}
@@ -28,8 +28,8 @@ returns-2 c =
     let k = c .before .before .before in
     simp (← k .before .maxima-right .ensures, k .if1 .left, ← c .before .before .largest .ensures, ← c .before .above .ensures, c .if2 .taken)
 
-place-at-requires : tie.Need-place-at-requires
-place-at-requires c κs =
+place-within-requires : tie.Need-place-within-requires
+place-within-requires c κs =
     let k = c .before .before .before in
     let a = k .before .before .args in
     let inside = ap (λ (n : ℕ). ltb n (a .sector)) (sym (c .before .before .largest .ensures)) ∙ sym (c .before .above .ensures) ∙ c .if2 .left in
@@ -41,7 +41,7 @@ returns-3 c =
     let e = c .before in
     let k = e .before .before .before in
     simp
-    (← k .before .maxima-right .ensures, k .if1 .left, ← e .before .before .largest .ensures, ← e .before .above .ensures, e .if2 .left, c .place-at .ensures)
+    (← k .before .maxima-right .ensures, k .if1 .left, ← e .before .before .largest .ensures, ← e .before .above .ensures, e .if2 .left, c .place-within .ensures)
 
 pub place-of-spec : {M : Type 1} → statement M
 place-of-spec =
@@ -52,5 +52,5 @@ place-of-spec =
     largest-requires
     above-requires
     returns-2
-    place-at-requires
+    place-within-requires
     returns-3)

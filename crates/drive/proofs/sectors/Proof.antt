@@ -1,7 +1,6 @@
 -- `drive::sectors` meets its contract: at most 65,536 cylinders, of at most 65,536 sectors each.
 use borrow.Author.Needs.{needs}
 use mathlib.Core.Path.{refl}
-use Prim.Native.Nat.{_*_}
 use native.Mathlib.Nat.{mul-le-mul, one-le-mul}
 use native.Mathlib.Omega.{arith}
 use mir.Syntax.{w64}

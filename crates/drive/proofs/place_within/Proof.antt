@@ -1,4 +1,4 @@
--- `drive::place_at` meets its contract: its three numbers are within their maxima, so they fit.
+-- `drive::place_within` meets its contract: its three numbers are within their maxima, so they fit.
 use borrow.Author.Needs.{needs}
 use mathlib.Core.Path.{_≡_, refl}
 use Prim.Native.Nat.{ℕ, _/_, _%_, _≤_, _<_}
@@ -8,8 +8,8 @@ use Rattle.meaning.specs.declared.Drive.{Drive}
 use Rattle.meaning.specs.Sectors.{perTrack, perCylinder, sectorCount, maximaRight}
 use Rattle.meaning.specs.Place.{placeOf}
 use Rattle.meaning.proofs.Numbering.{within-track, place-on-drive}
-use Rattle.drive.proofs.place_at.Statement.{statement}
-use Rattle.drive.proofs.place_at.Tie as tie
+use Rattle.drive.proofs.place_within.Statement.{statement}
+use Rattle.drive.proofs.place_within.Tie as tie
 
 -- n is the sectors of a cylinder
 within : (d : Drive) (sector n : ℕ) → n ≡ perCylinder d → (maximaRight d ≡ true) × (sector < sectorCount d)
@@ -64,8 +64,8 @@ returns : tie.Need-returns
 unfolding placeOf
 returns c = rw (c .before .before .per-cylinder .ensures .0) refl
 
-pub place-at-spec : {M : Type 1} → statement M
-place-at-spec =
+pub place-within-spec : {M : Type 1} → statement M
+place-within-spec =
     tie.close
     (tie.spec
     per-cylinder-requires
