@@ -1,17 +1,14 @@
 -- `drive::per_cylinder` meets its contract: 255 whole tracks of 256 sectors and 256 more are at most 65,536.
 use borrow.Author.Needs.{needs}
 use mathlib.Core.Path.{refl}
-use Prim.Native.Nat.{ℕ, _*_, _≤_}
-use native.Mathlib.Nat.{mul-le-mul, add-le-add}
+use Prim.Native.Nat.{_*_}
+use native.Mathlib.Nat.{add-le-add}
 use native.Mathlib.Omega.{arith}
 use mir.Syntax.{w32, w64}
 use Rattle.meaning.specs.Sectors.{perCylinder}
-use Rattle.drive.proofs.Products.{product-fits, sum-fits}
+use Rattle.drive.proofs.Products.{product-fits, sum-fits, tracks}
 use Rattle.drive.proofs.per_cylinder.Statement.{statement}
 use Rattle.drive.proofs.per_cylinder.Tie as tie
-
-tracks : {a b : ℕ} → a ≤ 255 → b ≤ 256 → a * b ≤ 255 * 256
-tracks x y = mul-le-mul {n₂ = 255} {m₂ = 256} x y
 
 cast-on-track : tie.Need-cast-on-track
 cast-on-track c = search needs

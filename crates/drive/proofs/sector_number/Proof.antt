@@ -6,16 +6,13 @@ use Prim.Native.Nat.{ℕ, _+_, _*_, _≤_}
 use native.Mathlib.Nat.{mul-le-mul, add-le-add}
 use mir.Syntax.{w32}
 use Rattle.meaning.specs.Sectors.{sectorNumber}
-use Rattle.drive.proofs.Products.{product-fits, sum-fits}
+use Rattle.drive.proofs.Products.{product-fits, sum-fits, tracks}
 use Rattle.drive.proofs.sector_number.Statement.{statement}
 use Rattle.drive.proofs.sector_number.Tie as tie
 
--- whole cylinders: at most 65,535 of at most 65,536 sectors; whole tracks: at most 255 of at most 256
+-- the whole cylinders before a sector: at most 65,535, of at most 65,536 sectors
 cylinders : {a b : ℕ} → a ≤ 65535 → b ≤ 65536 → a * b ≤ 65535 * 65536
 cylinders x y = mul-le-mul {n₂ = 65535} {m₂ = 65536} x y
-
-tracks : {a b : ℕ} → a ≤ 255 → b ≤ 256 → a * b ≤ 255 * 256
-tracks x y = mul-le-mul {n₂ = 255} {m₂ = 256} x y
 
 per-cylinder-requires : tie.Need-per-cylinder-requires
 per-cylinder-requires c κs = search needs
