@@ -1,9 +1,9 @@
-/* Lays a chain of IOPBs: numbers of several bytes have the high byte first. */
+/* Lays a chain of IOPBs with their link lists: numbers of several bytes have the high byte first. */
 #include "chain.h"
 
 #include <string.h>
 
-enum { CHEN = 0x20 };
+enum { CHEN = 0x20, SGM = 0x10 };
 
 static void two_bytes(uint8_t *at, uint16_t number)
 {
@@ -17,6 +17,16 @@ static void four_bytes(uint8_t *at, uint32_t number)
     two_bytes(at + 2, (uint16_t)number);
 }
 
+/* A link list: eight bytes for each range, of which bytes 2 and 3 are ignored. */
+static void lay_list(uint8_t *at, const rosadenca_link *list, size_t ranges)
+{
+    memset(at, 0, ROSADENCA_LINK_BYTES * ranges);
+    for (size_t k = 0; k < ranges; k++, at += ROSADENCA_LINK_BYTES) {
+        two_bytes(at, list[k].length);
+        four_bytes(at + 4, list[k].address);
+    }
+}
+
 /* One IOPB, not yet chained to another. */
 static void lay_iopb(uint8_t *iopb, rosadenca_disk_place first, const wish *w)
 {
@@ -27,6 +37,11 @@ static void lay_iopb(uint8_t *iopb, rosadenca_disk_place first, const wish *w)
     iopb[0x0C] = first.head;
     iopb[0x0D] = first.sector;
     four_bytes(iopb + 0x10, w->address);
+    if (w->ranges != 0) {
+        iopb[0x00] |= SGM;
+        /* bits 7-3 say how many ranges there are; of 32 they are 0 */
+        iopb[0x06] = (uint8_t)(w->ranges << 3);
+    }
 }
 
 bool lay_chain(uint8_t *memory, rosadenca_drive drive, const wish *wishes, size_t count)
@@ -38,6 +53,7 @@ bool lay_chain(uint8_t *memory, rosadenca_drive drive, const wish *wishes, size_
         if (first.number != ROSADENCA_ACCEPTED)
             return false;
         lay_iopb(iopb, first.place, &wishes[k]);
+        lay_list(memory + wishes[k].address, wishes[k].list, wishes[k].ranges);
         if (k + 1 < count) {
             iopb[0x00] |= CHEN;
             four_bytes(iopb + 0x14, (uint32_t)(IOPB_SPACING * (k + 1)));

@@ -1,4 +1,4 @@
-/* A chain of IOPBs, laid in the host's memory as IOPB 3 to 14 of docs/RULES.md say. */
+/* A chain of IOPBs, laid in the host's memory as IOPB 3 to 14 and 17 of docs/RULES.md say, with their link lists (Link 1 to 8). */
 #ifndef CHAIN_H
 #define CHAIN_H
 
@@ -6,17 +6,20 @@
 
 /* What a host wants done by one command. */
 typedef struct {
-    uint8_t command;   /* ROSADENCA_READ_DATA or ROSADENCA_WRITE_DATA */
-    uint32_t sector;   /* the number of the first sector */
-    uint16_t count;    /* how many sectors */
-    uint32_t address;  /* where in memory the data lies */
-    const char *wants; /* the same in words */
+    uint8_t command;            /* ROSADENCA_READ_DATA or ROSADENCA_WRITE_DATA */
+    uint32_t sector;            /* the number of the first sector */
+    uint16_t count;             /* how many sectors */
+    uint32_t address;           /* where in memory the data lies, or where its link list is to lie */
+    const rosadenca_link *list; /* the ranges that the data lies in, or NULL where it lies in one piece */
+    size_t ranges;              /* how many, up to 32; 0 for one piece */
+    const char *wants;          /* the same in words */
 } wish;
 
 /* IOPBs lie 32 bytes apart from address 0 on: they have 30 bytes, and an even address. */
 enum { IOPB_SPACING = 32 };
 
-/* Lays one IOPB for each wish, chained one to the next. Whether the drive has the first sector of every wish. */
+/* Lays one IOPB for each wish, chained one to the next, and the link list of each that has one. Whether the drive has the first sector
+   of every wish. */
 bool lay_chain(uint8_t *memory, rosadenca_drive drive, const wish *wishes, size_t count);
 
 #endif

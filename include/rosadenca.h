@@ -20,6 +20,15 @@
  *
  * What a call has written is in the lent bytes when it returns, and nowhere else: a host that must survive a power cut then makes the
  * image durable (msync, fsync), before it tells anyone.
+ *
+ * Data that lies in pieces: a read or a write with SGM set has a link list at its data address, and its sectors go to or come from the
+ * ranges of that list, laid end to end in list order (Link 1 to 8). What a caller has to know of it:
+ * - bits 7-3 of byte 6 of the IOPB say how many elements the list has, and 0 means 32 (IOPB 17). An element has eight bytes: the length
+ *   of its range in bytes 0-1, its address in bytes 4-7, the high byte first; bytes 2 and 3 are ignored;
+ * - a range begins at an even address; the list itself may lie at an odd one. A length counts bytes, and may be odd or 0; a sector may
+ *   lie in several ranges. All lengths together are 512 x count;
+ * - the walk copies the list into the record: the list's own bytes may be used for something else as soon as the walk is done;
+ * - ranges of one command may overlap. They are filled in list order, so that of a sector the later range of the list is what is left.
  */
 #ifndef ROSADENCA_H
 #define ROSADENCA_H
@@ -38,7 +47,9 @@ enum {
     ROSADENCA_IMAGE_LIMIT = 16777216, /* the most bytes that the image may have: Board 2 */
     ROSADENCA_SECTOR_BYTES = 512,     /* the bytes of one sector: Board 2 */
     ROSADENCA_MOST_COMMANDS = 32,     /* the most commands of a chain, and the fewest records of a lent table: Walk 3, Size 4 */
-    ROSADENCA_IOPB_BYTES = 30         /* the bytes of one IOPB: IOPB 1 */
+    ROSADENCA_IOPB_BYTES = 30,        /* the bytes of one IOPB: IOPB 1 */
+    ROSADENCA_MOST_LINKS = 32,        /* the most elements of a link list, and the room of a record for their ranges: Link 1 to 8 */
+    ROSADENCA_LINK_BYTES = 8          /* the bytes of one element in memory: Link 1 to 8 */
 };
 
 /* The numbers that calls answer with. */
@@ -53,21 +64,25 @@ enum {
     ROSADENCA_COMMAND_WAITS = 6,     /* an earlier command that is not finished conflicts with this one: Pick 6, Touch 4 */
     ROSADENCA_COMMAND_FINISHED = 7,  /* the command has no step left: Pick 5 */
     ROSADENCA_NO_SUCH_PLACE = 8,     /* the table has no command at that place: Pick 4 */
-    ROSADENCA_TABLE_SPOILED = 9,     /* over 32 commands, or a record in use that cannot be run: Spoiled 1 to 7 */
+    ROSADENCA_TABLE_SPOILED = 9,     /* over 32 commands, or a record in use that cannot be run: Spoiled 1 to 7, 9 and 10 */
     ROSADENCA_NO_SUCH_SECTOR = 10    /* the drive has no such sector: Look 5, Place 6 */
 };
 
-/* The completion codes, in byte 1 of a closed IOPB and in a record. The walk gives the first that applies: Code 1 to 12. */
+/* The completion codes, in byte 1 of a closed IOPB and in a record. The walk gives the first that applies: Code 1 to 12, and 14 to 16.
+   A command with a link list gets 4BH before the two others where the list itself is not all in memory, and after them where one of its
+   ranges is not. */
 enum {
     ROSADENCA_CODE_NEXT_ODD = 0x1E,        /* another IOPB follows, at an odd address; the chain ends here: Code 1 */
-    ROSADENCA_CODE_UNIMPLEMENTED = 0x14,   /* a command above 2, or SGM, or a subfunction that is not 0: Code 2 */
+    ROSADENCA_CODE_UNIMPLEMENTED = 0x14,   /* a command above 2, or SGM with No Operation, or a subfunction that is not 0: Code 2 */
     ROSADENCA_CODE_NOT_READY = 0x42,       /* a unit other than 0: Code 4 */
     ROSADENCA_CODE_COUNT_ZERO = 0x13,      /* no sector to move: Code 5 */
     ROSADENCA_CODE_CYLINDER = 0x10,        /* the cylinder is above its maximum, or the drive ends too early: Code 6 and 9 */
     ROSADENCA_CODE_HEAD = 0x11,            /* the head is above its maximum: Code 7 */
     ROSADENCA_CODE_SECTOR = 0x12,          /* the sector is above the maximum of its own head: Code 8 */
     ROSADENCA_CODE_WRITE_PROTECTED = 0x90, /* a write to a protected drive: Code 10 */
-    ROSADENCA_CODE_BUS_ERROR = 0x4B,       /* the data goes past the end of memory: Code 11 */
+    ROSADENCA_CODE_BUS_ERROR = 0x4B,       /* the link list is not all in memory: Code 14; a range of the data goes past its end: Code 11 */
+    ROSADENCA_CODE_LENGTHS = 0x1C,         /* the lengths of the link list don't add up to the sectors: Code 15 */
+    ROSADENCA_CODE_RANGE_ODD = 0x1F,       /* a range of the link list begins at an odd address, be it empty or not: Code 16 */
     ROSADENCA_CODE_SUCCESS = 0x00          /* none of these: Code 3 and 12 */
 };
 
@@ -104,16 +119,25 @@ typedef struct rosadenca_placed {
     uint8_t number;
 } rosadenca_placed;
 
-/* One accepted command, as the walk leaves it in the table: Record 3. A caller keeps records and hands them back; it has no need to
-   write one. */
+/* One range of a link list, as the walk copied it: so many bytes of memory from an address on. */
+typedef struct rosadenca_link {
+    uint32_t address;
+    uint16_t length;
+    uint16_t unused;  /* 0 after the walk; nothing looks at it */
+} rosadenca_link;
+
+/* One accepted command, as the walk leaves it in the table: Record 3 and 4. A caller keeps records and hands them back; it has no need
+   to write one. It has a link list exactly if `ranges` is not 0, whatever byte 0 says. */
 typedef struct rosadenca_record {
     uint32_t iopb;    /* where its IOPB is */
-    uint32_t address; /* the data address */
+    uint32_t address; /* the data address: of its data, or of its link list, which is not looked at any more after the walk */
     uint32_t sector;  /* the number of its first sector */
     uint32_t taken;   /* steps taken */
+    uint32_t ranges;  /* how many ranges its link list has; 0 where it has none, or where the walk did not read it */
     uint16_t count;   /* how many sectors */
     uint8_t byte0;    /* the copied byte 0 */
     uint8_t code;     /* the code that its close will post */
+    rosadenca_link list[ROSADENCA_MOST_LINKS]; /* the ranges, in list order; those past `ranges` are 0 and 0 after the walk */
 } rosadenca_record;
 
 /* What the walk gives. */
@@ -132,7 +156,7 @@ typedef struct rosadenca_ran {
 
 /* The IOPB at an address: the number of the view, and every field. A bit is 0 or 1. Where the number is not 0, every field is 0. */
 typedef struct rosadenca_iopb {
-    uint32_t data_address; /* bytes 10-13 */
+    uint32_t data_address; /* bytes 10-13: of the data, or of the link list where SGM is set */
     uint32_t next_address; /* bytes 14-17 */
     uint16_t count;        /* bytes 8-9: count of sectors */
     uint16_t cylinder;     /* bytes A-B */
@@ -140,7 +164,7 @@ typedef struct rosadenca_iopb {
     uint8_t errs;          /* byte 0, bit 7: it failed */
     uint8_t done;          /* byte 0, bit 6: it is closed */
     uint8_t chen;          /* byte 0, bit 5: another IOPB follows */
-    uint8_t sgm;           /* byte 0, bit 4: scatter/gather */
+    uint8_t sgm;           /* byte 0, bit 4: scatter/gather, by a link list */
     uint8_t command;       /* byte 0, bits 3-0 */
     uint8_t completion;    /* byte 1: the completion code */
     uint8_t wrpt;          /* byte 2, bit 4: the drive is protected */
@@ -181,14 +205,20 @@ ROSADENCA_AT(rosadenca_disk_place, sector, 3);
 ROSADENCA_HOLDS(sizeof(rosadenca_placed) == 6);
 ROSADENCA_AT(rosadenca_placed, place, 0);
 ROSADENCA_AT(rosadenca_placed, number, 4);
-ROSADENCA_HOLDS(sizeof(rosadenca_record) == 20);
+ROSADENCA_HOLDS(sizeof(rosadenca_link) == 8);
+ROSADENCA_AT(rosadenca_link, address, 0);
+ROSADENCA_AT(rosadenca_link, length, 4);
+ROSADENCA_AT(rosadenca_link, unused, 6);
+ROSADENCA_HOLDS(sizeof(rosadenca_record) == 280);
 ROSADENCA_AT(rosadenca_record, iopb, 0);
 ROSADENCA_AT(rosadenca_record, address, 4);
 ROSADENCA_AT(rosadenca_record, sector, 8);
 ROSADENCA_AT(rosadenca_record, taken, 12);
-ROSADENCA_AT(rosadenca_record, count, 16);
-ROSADENCA_AT(rosadenca_record, byte0, 18);
-ROSADENCA_AT(rosadenca_record, code, 19);
+ROSADENCA_AT(rosadenca_record, ranges, 16);
+ROSADENCA_AT(rosadenca_record, count, 20);
+ROSADENCA_AT(rosadenca_record, byte0, 22);
+ROSADENCA_AT(rosadenca_record, code, 23);
+ROSADENCA_AT(rosadenca_record, list, 24);
 ROSADENCA_HOLDS(sizeof(rosadenca_walked) == 16);
 ROSADENCA_AT(rosadenca_walked, number, 0);
 ROSADENCA_AT(rosadenca_walked, commands, 8);
@@ -224,7 +254,8 @@ ROSADENCA_AT(rosadenca_part, length, 8);
 #undef ROSADENCA_HOLDS
 
 /*
- * Walks the chain that starts at an address, and copies what is needed from every IOPB into the table, before anything moves: Walk 1.
+ * Walks the chain that starts at an address, and copies what is needed from every IOPB, and from its link list, into the table, before
+ * anything moves: Walk 1.
  * Numbers, in this order: 1, 2, then at each IOPB in turn 5, 3, 4; else 0 (Walk 5 to 10). A command that will fail is accepted too:
  * its record holds its code.
  * On 0 the records of the commands are written, with no step taken, and those past the last command are left alone. On any other
@@ -239,7 +270,8 @@ rosadenca_walked rosadenca_walk(const uint8_t *memory, size_t memory_length, con
  * sector has moved, it writes bytes 0 to 3 of its IOPB (Step 4 to 9).
  * Numbers, in this order: 1, 9, 8, 7, 6; else 0 (Pick 2 to 7). 9 is for over 32 commands, or for a record in use that has its IOPB
  * not all in memory or more steps taken than it has, or that is a transfer with no sector, with data or sectors outside memory or
- * drive, or a write to a protected drive (Spoiled 1 to 7).
+ * drive, or a write to a protected drive (Spoiled 1 to 7). Of a transfer with a link list the data is every range: 9 is also for more
+ * than 32 of them (Spoiled 9), and for lengths that do not add up to the sectors (Spoiled 10).
  * On 0 one step is taken in memory, image and table. On any other number nothing is changed.
  */
 uint8_t rosadenca_pick(uint8_t *memory, size_t memory_length, uint8_t *image, size_t image_length, rosadenca_drive drive,

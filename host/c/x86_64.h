@@ -21,6 +21,7 @@ typedef __UINT64_TYPE__ uint64_t;
 #define UINT64_MAX 18446744073709551615UL
 #define PRIu32 "u"
 #define PRIx32 "x"
+#define PRIX32 "X"
 #define PRIu64 "lu"
 
 /* stdio, stdlib, string */

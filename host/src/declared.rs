@@ -32,7 +32,18 @@ pub struct Placed {
     pub number: u8,
 }
 
-/// One accepted command, as the walk leaves it in the table.
+/// One range of a link list: so many bytes of memory from an address on.
+#[repr(C)]
+#[derive(Clone, Copy, Debug, Default, PartialEq, Eq)]
+pub struct Link {
+    pub address: u32,
+    pub length: u16,
+    /// 0 after the walk; nothing looks at it.
+    pub unused: u16,
+}
+
+/// One accepted command, as the walk leaves it in the table. It has a link list exactly if `ranges`
+/// is not 0; `list` then holds its ranges, as the walk copied them.
 #[repr(C)]
 #[derive(Clone, Copy, Debug, Default, PartialEq, Eq)]
 pub struct Record {
@@ -40,9 +51,11 @@ pub struct Record {
     pub address: u32,
     pub sector: u32,
     pub taken: u32,
+    pub ranges: u32,
     pub count: u16,
     pub byte0: u8,
     pub code: u8,
+    pub list: [Link; 32],
 }
 
 /// What the walk gives: its number, and how many commands there are, 0 on a refusal.

@@ -2,16 +2,21 @@
 //! firmware's speed is measured against, so it is written for speed as far as it stays easy to read.
 //! It works in the lent table and copies none, tests sizes and table once a call, moves sectors that
 //! follow each other by one copy, works out once in a run what each command touches, and never asks
-//! twice there whether one command waits for another. Its calls are not inlined, as the archive's cannot be, so that no caller's own numbers
-//! are worked into them. The tests hold it to the second program.
+//! twice there whether one command waits for another. A link list is weighed once a call, for number 9
+//! and for where its data lies; only where two commands lie over each other by that are their ranges
+//! tested, pair by pair. Its calls are not inlined, as the archive's cannot be, so that no caller's own
+//! numbers are worked into them. The tests hold it to the second program.
 //!
 //! Tried and left out: each field of the records in an array of its own, and for each place a mask of
 //! the earlier ones that it conflicts with, which the compiler works out several at a time. The run
 //! by picks of 32 commands, last to first, where alone it was tried, then took 1.9 us in place of 2.7;
 //! it was hard to read. Masks without such arrays were slower than none.
 
-use crate::declared::{Drive, Part, Place, Placed, Ran, Record, Walked};
+mod lists;
+
+use crate::declared::{Drive, Link, Part, Place, Placed, Ran, Record, Walked};
 use crate::field::Fields;
+use lists::meet;
 use std::ops::Range;
 
 const MEMORY_LIMIT: usize = 65_536;
@@ -110,11 +115,12 @@ fn maximum_on(drive: Drive, head: u8) -> u8 {
     }
 }
 
-/// The code that a command will get; `first` is the number of its first sector.
-fn code(bounds: &Bounds, drive: Drive, f: &Fields, first: u64) -> u8 {
+/// The code that a command will get before its data is looked at; `first` is the number of its first
+/// sector.
+fn early_code(bounds: &Bounds, drive: Drive, f: &Fields, first: u64) -> u8 {
     if f.chen == 1 && f.next_address % 2 == 1 {
         0x1E
-    } else if f.command > READ_DATA || f.sgm == 1 || f.subfunction != 0 {
+    } else if f.command > READ_DATA || (f.sgm == 1 && f.command == 0) || f.subfunction != 0 {
         0x14
     } else if f.command == 0 {
         0x00
@@ -133,7 +139,23 @@ fn code(bounds: &Bounds, drive: Drive, f: &Fields, first: u64) -> u8 {
     // no branch on the command: reads and writes often take turns
     } else if (f.command == WRITE_DATA) & bounds.protected {
         0x90
-    } else if !bounds.hold_data(f.data_address, f.count) {
+    } else {
+        0x00
+    }
+}
+
+fn data_bytes(count: u16) -> u32 {
+    SECTOR as u32 * u32::from(count)
+}
+
+/// The code of a transfer by its link list, which was read.
+fn list_code(bounds: &Bounds, links: &[Link], count: u16) -> u8 {
+    let weighed = lists::weigh(links);
+    if weighed.bytes != data_bytes(count) {
+        0x1C
+    } else if weighed.odd {
+        0x1F
+    } else if u64::from(weighed.hull.end) > bounds.memory {
         0x4B
     } else {
         0x00
@@ -164,22 +186,47 @@ fn follow(memory: &[u8], start: u32, found: &mut [u32; MOST_COMMANDS]) -> Result
     Err(5)
 }
 
-/// The record of the command whose IOPB is at an address.
-fn record(memory: &[u8], bounds: &Bounds, drive: Drive, at: u32) -> Record {
+/// A record of zeros. It is a constant, so that filling one is filling bytes.
+const BLANK: Record = Record {
+    iopb: 0,
+    address: 0,
+    sector: 0,
+    taken: 0,
+    ranges: 0,
+    count: 0,
+    byte0: 0,
+    code: 0,
+    list: [Link { address: 0, length: 0, unused: 0 }; lists::MOST_LINKS],
+};
+
+/// Fills the record of the command whose IOPB is at an address, in its place in the table.
+fn fill(memory: &[u8], bounds: &Bounds, drive: Drive, at: u32, r: &mut Record) {
     let bytes = iopb(memory, at).expect("the chain was followed through it");
     let f = fields(bytes);
     let first = u64::from(f.cylinder) * per_cylinder(drive)
         + u64::from(f.head) * per_track(drive)
         + u64::from(f.sector);
-    Record {
-        iopb: at,
-        address: f.data_address,
-        sector: first as u32,
-        taken: 0,
-        count: f.count,
-        byte0: bytes[0],
-        code: code(bounds, drive, &f, first),
+    *r = BLANK;
+    r.iopb = at;
+    r.address = f.data_address;
+    r.sector = first as u32;
+    r.count = f.count;
+    r.byte0 = bytes[0];
+    r.code = early_code(bounds, drive, &f, first);
+    if r.code != 0 || f.command == 0 {
+        return;
     }
+    if f.sgm == 0 {
+        r.code = if bounds.hold_data(f.data_address, f.count) { 0x00 } else { 0x4B };
+        return;
+    }
+    let elements = lists::elements(bytes[6]);
+    if !lists::read(memory, f.data_address, elements, &mut r.list) {
+        r.code = 0x4B;
+        return;
+    }
+    r.ranges = elements as u32;
+    r.code = list_code(bounds, &r.list[..elements], f.count);
 }
 
 /// A refused walk leaves the table alone, so the chain is followed to its end before a record is
@@ -194,8 +241,8 @@ pub fn walk(memory: &[u8], image: &[u8], drive: Drive, start: u32, table: &mut [
         Err(number) => Walked { number, commands: 0 },
         Ok(commands) => {
             let bounds = Bounds::new(memory, drive);
-            for (place, at) in table.iter_mut().zip(&found[..commands]) {
-                *place = record(memory, &bounds, drive, *at);
+            for (record, at) in table.iter_mut().zip(&found[..commands]) {
+                fill(memory, &bounds, drive, *at, record);
             }
             Walked { number: 0, commands }
         }
@@ -232,7 +279,30 @@ fn finished(r: &Record) -> bool {
     r.taken == steps(r)
 }
 
-fn sound(bounds: &Bounds, r: &Record) -> bool {
+/// From where to where the data of each command with a list goes. For the others it says nothing:
+/// theirs follows from address and count.
+type Hulls = [Range<u32>; MOST_COMMANDS];
+
+const NO_HULLS: Hulls = [const { 0..0 }; MOST_COMMANDS];
+
+/// Whether the link list of a transfer is what it must be; notes where it lies.
+fn list_sound(bounds: &Bounds, r: &Record, hull: &mut Range<u32>) -> bool {
+    let weighed = lists::weigh(lists::used(r));
+    *hull = weighed.hull;
+    (r.ranges as usize <= lists::MOST_LINKS)
+        & (u64::from(hull.end) <= bounds.memory)
+        & (weighed.bytes == data_bytes(r.count))
+}
+
+/// Whether the data of a transfer is where it may be.
+fn data_sound(bounds: &Bounds, r: &Record, hull: &mut Range<u32>) -> bool {
+    if r.ranges == 0 {
+        return bounds.hold_data(r.address, r.count);
+    }
+    list_sound(bounds, r, hull)
+}
+
+fn sound(bounds: &Bounds, r: &Record, hull: &mut Range<u32>) -> bool {
     if u64::from(r.iopb) + IOPB as u64 > bounds.memory {
         return false;
     }
@@ -243,21 +313,30 @@ fn sound(bounds: &Bounds, r: &Record) -> bool {
         _ => {
             (r.count != 0)
                 & (r.taken <= u32::from(r.count))
-                & bounds.hold_data(r.address, r.count)
+                & data_sound(bounds, r, hull)
                 & bounds.hold_sectors(u64::from(r.sector), r.count)
         }
     }
 }
 
-/// The numbers that stand before any place is looked at: 1, then 9, else 0.
-fn refused(memory: &[u8], image: &[u8], drive: Drive, table: &[Record], commands: usize) -> u8 {
+/// The numbers that stand before any place is looked at: 1, then 9, else 0; then all hulls are noted.
+fn refused(
+    memory: &[u8],
+    image: &[u8],
+    drive: Drive,
+    table: &[Record],
+    commands: usize,
+    hulls: &mut Hulls,
+) -> u8 {
     if !sizes_right(memory, image, drive, table) {
         return 1;
     }
+    if commands > MOST_COMMANDS {
+        return 9;
+    }
     let bounds = Bounds::new(memory, drive);
-    let all_sound =
-        commands <= MOST_COMMANDS && table[..commands].iter().all(|record| sound(&bounds, record));
-    if all_sound {
+    let mut in_use = table[..commands].iter().zip(hulls);
+    if in_use.all(|(record, hull)| sound(&bounds, record, hull)) {
         0
     } else {
         9
@@ -265,48 +344,80 @@ fn refused(memory: &[u8], image: &[u8], drive: Drive, table: &[Record], commands
 }
 
 /// What a sound command touches: its status bytes from `status` on, its data, its sectors. Where
-/// nothing moves, the last two are empty ranges, which meet no other.
+/// nothing moves, the last two are empty ranges, which meet no other. Of a command with a link list
+/// the data here is only where its ranges lie at most.
 struct Touched {
     kind: Kind,
+    listed: bool,
     status: u32,
     data: Range<u32>,
     sectors: Range<u32>,
 }
 
-fn touched(r: &Record) -> Touched {
+fn touched(r: &Record, hull: &Range<u32>) -> Touched {
     let kind = kind(r);
-    let count = if kind == Kind::Still { 0 } else { u32::from(r.count) };
+    let listed = kind != Kind::Still && r.ranges != 0;
+    let count = if kind == Kind::Still { 0 } else { r.count };
     Touched {
         kind,
+        listed,
         status: r.iopb,
-        data: r.address..r.address + SECTOR as u32 * count,
-        sectors: r.sector..r.sector + count,
+        data: if listed { hull.clone() } else { r.address..r.address + data_bytes(count) },
+        sectors: r.sector..r.sector + u32::from(count),
     }
 }
 
-fn meet(one: &Range<u32>, other: &Range<u32>) -> bool {
-    one.start.max(other.start) < one.end.min(other.end)
+impl Touched {
+    fn posted(&self) -> Range<u32> {
+        self.status..self.status + 4
+    }
+
+    /// Whether bytes of memory have one in common with its data, by its ranges where it has a list.
+    fn data_meets(&self, own: &Record, bytes: &Range<u32>) -> bool {
+        meet(&self.data, bytes) && (!self.listed || lists::meets(lists::used(own), bytes))
+    }
 }
 
 /// Whether one of two commands writes a byte or a sector that the other touches. Both write their
-/// status; a read writes its data, a write its sectors.
-fn conflict(one: &Touched, other: &Touched) -> bool {
-    let posted = |command: &Touched| command.status..command.status + 4;
-    if meet(&posted(one), &posted(other))
-        || meet(&posted(one), &other.data)
-        || meet(&one.data, &posted(other))
-    {
+/// status; a read writes its data, a write its sectors. Their records are asked only where a list
+/// has a say.
+// inlined, so that what is touched stays in registers
+#[inline(always)]
+fn conflict(one: (&Touched, &Record), other: (&Touched, &Record)) -> bool {
+    let (a, b) = (one.0, other.0);
+    let either = |kind| a.kind == kind || b.kind == kind;
+    if meet(&a.posted(), &b.posted()) || (either(Kind::Write) && meet(&a.sectors, &b.sectors)) {
         return true;
     }
-    let either = |kind| one.kind == kind || other.kind == kind;
-    (either(Kind::Read) && meet(&one.data, &other.data))
-        || (either(Kind::Write) && meet(&one.sectors, &other.sectors))
+    let near = meet(&a.posted(), &b.data)
+        || meet(&a.data, &b.posted())
+        || (either(Kind::Read) && meet(&a.data, &b.data));
+    near && (!(a.listed || b.listed) || ranges_conflict(one, other))
+}
+
+/// Whether one of two commands, of which one has a list, writes data or status over the other's.
+#[inline(never)]
+fn ranges_conflict((a, one): (&Touched, &Record), (b, other): (&Touched, &Record)) -> bool {
+    if b.data_meets(other, &a.posted()) || a.data_meets(one, &b.posted()) {
+        return true;
+    }
+    if a.kind != Kind::Read && b.kind != Kind::Read {
+        return false;
+    }
+    match (a.listed, b.listed) {
+        (true, true) => lists::lists_meet(lists::used(one), lists::used(other), &b.data),
+        (true, false) => a.data_meets(one, &b.data),
+        _ => b.data_meets(other, &a.data),
+    }
 }
 
 /// Whether an unfinished command before `place` conflicts with the one there.
-fn waits(table: &[Record], place: usize) -> bool {
-    let wanted = touched(&table[place]);
-    table[..place].iter().any(|earlier| !finished(earlier) && conflict(&touched(earlier), &wanted))
+fn waits(table: &[Record], hulls: &Hulls, place: usize) -> bool {
+    let wanted = touched(&table[place], &hulls[place]);
+    let mut earlier = table[..place].iter().zip(hulls);
+    earlier.any(|(record, hull)| {
+        !finished(record) && conflict((&touched(record, hull), record), (&wanted, &table[place]))
+    })
 }
 
 /// Takes so many steps of a command, which has as many left, and closes it after its last.
@@ -316,12 +427,26 @@ fn take(memory: &mut [u8], image: &mut [u8], drive: Drive, r: &mut Record, taken
     let at = r.address as usize + SECTOR * r.taken as usize;
     let on_disk = SECTOR * (r.sector as usize + r.taken as usize);
     let bytes = SECTOR * taken as usize;
+    let kind = kind(r);
+    if r.ranges != 0 && kind != Kind::Still {
+        let disk = &mut image[SECTOR * r.sector as usize..];
+        let from = SECTOR * r.taken as usize;
+        lists::move_pieces(memory, disk, lists::used(r), kind == Kind::Read, from, from + bytes);
+        r.taken += taken;
+        return close(memory, drive, r);
+    }
     r.taken += taken;
-    match kind(r) {
+    match kind {
         Kind::Read => memory[at..at + bytes].copy_from_slice(&image[on_disk..on_disk + bytes]),
         Kind::Write => image[on_disk..on_disk + bytes].copy_from_slice(&memory[at..at + bytes]),
         Kind::Still => {}
     }
+    close(memory, drive, r);
+}
+
+/// Posts the status of a command that has no step left.
+#[inline(always)]
+fn close(memory: &mut [u8], drive: Drive, r: &Record) {
     if finished(r) {
         let errs = if r.code == 0 { 0 } else { 0x80 };
         let byte2 = if drive.protected { 0x13 } else { 0x03 };
@@ -341,14 +466,15 @@ pub fn pick(
     commands: usize,
     place: usize,
 ) -> u8 {
-    let number = refused(memory, image, drive, table, commands);
+    let mut hulls = NO_HULLS;
+    let number = refused(memory, image, drive, table, commands, &mut hulls);
     if number != 0 {
         number
     } else if place >= commands {
         8
     } else if finished(&table[place]) {
         7
-    } else if waits(table, place) {
+    } else if waits(table, &hulls, place) {
         6
     } else {
         take(memory, image, drive, &mut table[place], 1);
@@ -368,12 +494,13 @@ pub fn run_picks(
     commands: usize,
     picks: &[u8],
 ) -> Ran {
-    let number = refused(memory, image, drive, table, commands);
+    let mut hulls = NO_HULLS;
+    let number = refused(memory, image, drive, table, commands, &mut hulls);
     let mut ran = Ran { number, ..Ran::default() };
     if number != 0 {
         return ran;
     }
-    let touches: [Touched; MOST_COMMANDS] = std::array::from_fn(|k| touched(&table[k]));
+    let touches: [Touched; MOST_COMMANDS] = std::array::from_fn(|k| touched(&table[k], &hulls[k]));
     let mut left = [0; MOST_COMMANDS];
     for (left, record) in left.iter_mut().zip(&table[..commands]) {
         *left = steps(record) - record.taken;
@@ -383,7 +510,8 @@ pub fn run_picks(
         let (place, named) = (usize::from(same[0]), same.len() as u64);
         let mut taken = 0;
         if place < commands && left[place] > 0 {
-            let blocks = |k: &usize| left[*k] > 0 && conflict(&touches[*k], &touches[place]);
+            let command = |k: usize| (&touches[k], &table[k]);
+            let blocks = |k: &usize| left[*k] > 0 && conflict(command(*k), command(place));
             let found = (searched[place]..place).find(blocks);
             searched[place] = found.unwrap_or(place);
             if found.is_none() {
@@ -408,7 +536,7 @@ pub fn run_written(
     commands: usize,
     budget: u64,
 ) -> Ran {
-    let number = refused(memory, image, drive, table, commands);
+    let number = refused(memory, image, drive, table, commands, &mut NO_HULLS.clone());
     let mut ran = Ran { number, finished: number == 0, ..Ran::default() };
     if number != 0 {
         return ran;

@@ -1,6 +1,7 @@
-//! The same things in the archive's words and in the second program's: drive, place, record, fields.
+//! The same things in the archive's words and in the second program's: drive, place, range, record,
+//! fields.
 
-use crate::declared::{Drive, Place, Record};
+use crate::declared::{Drive, Link, Place, Record};
 use crate::field::Fields;
 
 /// The archive's drive, from the second program's.
@@ -34,6 +35,17 @@ pub fn second_place_of(place: &Place) -> second::place::Place {
     }
 }
 
+/// The archive's range of a list, from the second program's.
+fn link_of(range: second::range::Range) -> Link {
+    let length = range.length.try_into().expect("a range of a list has a length of 16 bits");
+    Link { address: range.address, length, unused: 0 }
+}
+
+/// The second program's range, from the archive's of a list.
+fn second_range_of(link: Link) -> second::range::Range {
+    second::range::Range { address: link.address, length: link.length.into() }
+}
+
 /// The archive's record, from the second program's.
 pub fn record_of(record: &second::record::Record) -> Record {
     Record {
@@ -41,9 +53,11 @@ pub fn record_of(record: &second::record::Record) -> Record {
         address: record.data,
         sector: record.sector,
         taken: record.taken,
+        ranges: record.ranges,
         count: record.count,
         byte0: record.byte0,
         code: record.code,
+        list: record.list.map(link_of),
     }
 }
 
@@ -57,6 +71,8 @@ pub fn second_record_of(record: &Record) -> second::record::Record {
         count: record.count,
         byte0: record.byte0,
         code: record.code,
+        ranges: record.ranges,
+        list: record.list.map(second_range_of),
     }
 }
 

@@ -104,4 +104,10 @@ fn a_line_outside_the_format_is_named() {
     // as it was before the last head had a maximum of its own
     let error = by_archive("case 1\ndrive 0 0 1 0\n").expect_err("a drive has five numbers");
     assert!(error.starts_with("line 2: "), "{error}");
+    // as it was before a record had ranges
+    let error =
+        by_archive("case 1\nrecord 0 0 0 0 0 0 0 0\n").expect_err("a record line has nine numbers");
+    assert!(error.starts_with("line 2: "), "{error}");
+    let error = by_archive("case 1\nrange 0 32 0 0\n").expect_err("a record has 32 ranges");
+    assert!(error.starts_with("line 2: "), "{error}");
 }

@@ -4,7 +4,7 @@
 
 mod reading;
 
-use host::declared::{Drive, Iopb, Part, Place, Placed, Ran, Record, Walked};
+use host::declared::{Drive, Iopb, Link, Part, Place, Placed, Ran, Record, Walked};
 use reading::{c_header, differences, rattle, rust, Declared};
 use std::mem::{align_of, offset_of, size_of};
 use std::path::{Path, PathBuf};
@@ -34,7 +34,7 @@ fn source() -> Declared {
 
 fn hold(name: &str, declared: &Declared) {
     let source = source();
-    assert!(source.functions.len() == 9 && source.structs.len() == 8, "the source was not read");
+    assert!(source.functions.len() == 9 && source.structs.len() == 9, "the source was not read");
     let found = differences(("the source", &source), (name, declared));
     assert!(found.is_empty(), "{name} is not what the source exports:\n{}", found.join("\n"));
 }
@@ -58,6 +58,17 @@ fn a_changed_declaration_is_found() {
         ("uint16_t count;", "uint32_t count;"),
         ("uint32_t address;", "uint32_t data;"),
         ("    uint8_t byte0;", ""),
+        ("    uint32_t ranges;", ""),
+        ("    uint16_t length;", "    uint32_t length;"),
+        (
+            "rosadenca_link list[ROSADENCA_MOST_LINKS];",
+            "rosadenca_link list[ROSADENCA_IOPB_BYTES];",
+        ),
+        (
+            "rosadenca_link list[ROSADENCA_MOST_LINKS];",
+            "rosadenca_part list[ROSADENCA_MOST_LINKS];",
+        ),
+        ("ROSADENCA_MOST_LINKS = 32", "ROSADENCA_MOST_LINKS = 31"),
         ("uint64_t budget", "uint32_t budget"),
         ("size_t commands, size_t place", "size_t place, size_t commands"),
         ("const uint8_t *picks", "uint8_t *picks"),
@@ -115,15 +126,25 @@ fn assertions() -> String {
     layout!(text, Placed, "rosadenca_placed", (place, "place"), (number, "number"));
     layout!(
         text,
+        Link,
+        "rosadenca_link",
+        (address, "address"),
+        (length, "length"),
+        (unused, "unused")
+    );
+    layout!(
+        text,
         Record,
         "rosadenca_record",
         (iopb, "iopb"),
         (address, "address"),
         (sector, "sector"),
         (taken, "taken"),
+        (ranges, "ranges"),
         (count, "count"),
         (byte0, "byte0"),
-        (code, "code")
+        (code, "code"),
+        (list, "list")
     );
     layout!(text, Walked, "rosadenca_walked", (number, "number"), (commands, "commands"));
     layout!(
@@ -188,6 +209,8 @@ fn the_headers_limits_are_the_second_programs() {
         ("ROSADENCA_SECTOR_BYTES", second::board::SECTOR_BYTES),
         ("ROSADENCA_MOST_COMMANDS", second::record::MOST_COMMANDS),
         ("ROSADENCA_IOPB_BYTES", second::iopb::IOPB_BYTES),
+        ("ROSADENCA_MOST_LINKS", second::link_list::MOST_ELEMENTS),
+        ("ROSADENCA_LINK_BYTES", second::link_list::ELEMENT_BYTES),
     ];
     let lines = limits.map(|(name, limit)| assertion(name, limit as usize)).concat();
     if let Err(said) = compiles("limits.c", &format!("#include \"rosadenca.h\"\n{lines}")) {
@@ -211,7 +234,7 @@ fn c_lays_the_structs_out_as_rust_does() {
     if let Err(said) = compiles("layout.c", &text) {
         panic!("{said}");
     }
-    let wrong = text.replace("sizeof(rosadenca_record) == 20", "sizeof(rosadenca_record) == 24");
-    assert_ne!(text, wrong, "a record has 20 bytes");
+    let wrong = text.replace("sizeof(rosadenca_record) == 280", "sizeof(rosadenca_record) == 284");
+    assert_ne!(text, wrong, "a record has 280 bytes");
     assert!(compiles("wrong_layout.c", &wrong).is_err(), "the C compiler takes a wrong size");
 }

@@ -1,24 +1,14 @@
 //! Random chains: the archive and the ordinary board are held to the second program, every number
 //! and code comes up, and a board with a fault is found out.
 
+mod playing;
+
 use host::boards::{Board, ARCHIVE, ORDINARY};
 use host::declared::{Drive, Place, Placed, Ran};
-use host::differ::counts::Counts;
-use host::differ::make::play_chain;
+use playing::{must_be_found, played};
 
-/// Chains for a board that is to come out right, and for one with a fault.
+/// Chains for a board that is to come out right.
 const CHAINS: u64 = 12_000;
-const CHAINS_FOR_A_FAULT: u64 = 3_000;
-
-/// Plays chains on a board; the error is the first difference.
-fn played(board: &Board, seed: u64, chains: u64) -> Result<Counts, String> {
-    let mut counts = Counts::default();
-    for n in 0..chains {
-        play_chain(board, seed, n, &mut counts, false)
-            .map_err(|what| format!("seed {seed}, chain {n}, {what}"))?;
-    }
-    Ok(counts)
-}
 
 fn hold(board: &Board, seed: u64) {
     let counts = played(board, seed, CHAINS).unwrap_or_else(|what| panic!("{what}"));
@@ -34,11 +24,6 @@ fn the_archive_is_held_to_the_second_program() {
 #[test]
 fn the_ordinary_board_is_held_to_the_second_program() {
     hold(&ORDINARY, 8);
-}
-
-fn must_be_found(what: &str, faulty: Board) {
-    let found = played(&faulty, 9, CHAINS_FOR_A_FAULT).is_err();
-    assert!(found, "a board that {what} was not found out");
 }
 
 #[test]

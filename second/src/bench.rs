@@ -19,8 +19,8 @@ pub enum BenchReply {
     Deck,
     /// The walk refuses, with this number.
     Chain(u8),
-    /// The code of each command, and the steps.
-    Lines { codes: Vec<u8>, steps: u64 },
+    /// The record of each command, and the steps.
+    Lines { records: Vec<Record>, steps: u64 },
 }
 
 impl BenchReply {
@@ -29,10 +29,10 @@ impl BenchReply {
         match self {
             BenchReply::Deck => vec!["deck".to_string()],
             BenchReply::Chain(number) => vec![format!("chain {number}")],
-            BenchReply::Lines { codes, steps } => {
+            BenchReply::Lines { records, steps } => {
                 let mut lines = Vec::new();
-                for (place, code) in codes.iter().enumerate() {
-                    lines.push(format!("{place} {code:02X}"));
+                for (place, record) in records.iter().enumerate() {
+                    lines.push(format!("{place} {:02X}", record.code));
                 }
                 lines.push(format!("steps {steps}"));
                 lines
@@ -73,7 +73,7 @@ pub fn bench(deck: &[u8]) -> BenchReply {
     }
     let run = run_written(&mut board, &mut table, walked.commands, u64::MAX);
     let in_use = &table[..walked.commands as usize];
-    BenchReply::Lines { codes: in_use.iter().map(|record| record.code).collect(), steps: run.steps }
+    BenchReply::Lines { records: in_use.to_vec(), steps: run.steps }
 }
 
 /// Whole records, 1 to 32 of them, with bytes 30 and 31 as they must be.

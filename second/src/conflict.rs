@@ -2,6 +2,7 @@
 //! sectors, and whether two commands conflict. Asked only of sound tables, so
 //! the sets are never larger than memory and drive.
 
+use crate::range::Range;
 use crate::record::Record;
 use std::collections::BTreeSet;
 
@@ -21,13 +22,13 @@ pub fn status_bytes(record: &Record) -> BTreeSet<u64> {
     (first..first + 4).collect()
 }
 
-/// The data bytes of a transfer with code 00; none for any other command.
+/// The data bytes of a transfer with code 00, of all its ranges; none for any
+/// other command.
 pub fn data_bytes(record: &Record) -> BTreeSet<u64> {
     if !record.is_transfer() {
         return BTreeSet::new();
     }
-    let first = u64::from(record.data);
-    (first..first + record.data_bytes()).collect()
+    record.data_ranges().iter().flat_map(Range::bytes).collect()
 }
 
 /// The sectors of a transfer with code 00; none for any other command.

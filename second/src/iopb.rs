@@ -59,7 +59,8 @@ fn bit(byte: u8, place: u32) -> u64 {
     u64::from((byte >> place) & 1)
 }
 
-fn high_first(bytes: &[u8]) -> u64 {
+/// The number in bytes that have the high one first.
+pub fn high_first(bytes: &[u8]) -> u64 {
     let mut number = 0;
     for byte in bytes {
         number = number * 256 + u64::from(*byte);

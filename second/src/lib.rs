@@ -1,5 +1,5 @@
 //! A second, independent model of the board, written from document 01 and
-//! ticket 1 of document 02 alone. It is slow and plain on purpose: it says what
+//! tickets 1 and 2 of document 02 alone. It is slow and plain on purpose: it says what
 //! the rules say, so that a faster board can be held against it, case by case.
 
 // The board and its rules.
@@ -8,9 +8,11 @@ pub mod code;
 pub mod conflict;
 pub mod drive;
 pub mod iopb;
+pub mod link_list;
 pub mod look;
 pub mod pick;
 pub mod place;
+pub mod range;
 pub mod record;
 pub mod run;
 pub mod walk;

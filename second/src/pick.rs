@@ -3,6 +3,7 @@
 
 use crate::board::{Board, SECTOR_BYTES};
 use crate::conflict::{conflict, touched, Touched};
+use crate::range::bytes_end_to_end;
 use crate::record::{causes, Record, MOST_COMMANDS};
 
 const ERRS: u8 = 0x80;
@@ -64,17 +65,20 @@ pub fn take_step(board: &mut Board, record: &mut Record) {
     }
 }
 
+/// Moves the next sector, byte by byte in list order: where ranges overlap, a
+/// read leaves what it filled last.
 fn move_sector(board: &mut Board, record: &Record) {
     let step = u64::from(record.taken);
-    let in_memory = (u64::from(record.data) + SECTOR_BYTES * step) as usize;
+    let in_memory = bytes_end_to_end(&record.data_ranges(), SECTOR_BYTES * step, SECTOR_BYTES);
     let in_image = (SECTOR_BYTES * (u64::from(record.sector) + step)) as usize;
-    let bytes = SECTOR_BYTES as usize;
-    let memory = &mut board.memory[in_memory..in_memory + bytes];
-    let image = &mut board.image[in_image..in_image + bytes];
-    if record.reads_sectors() {
-        memory.copy_from_slice(image);
-    } else {
-        image.copy_from_slice(memory);
+    let sector = &mut board.image[in_image..in_image + SECTOR_BYTES as usize];
+    for (byte, address) in sector.iter_mut().zip(in_memory) {
+        let other = &mut board.memory[address as usize];
+        if record.reads_sectors() {
+            *other = *byte;
+        } else {
+            *byte = *other;
+        }
     }
 }
 

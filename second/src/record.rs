@@ -3,12 +3,15 @@
 
 use crate::board::{Board, SECTOR_BYTES};
 use crate::iopb::IOPB_BYTES;
+use crate::link_list::MOST_ELEMENTS;
+use crate::range::{sum_of_lengths, Range};
 use std::collections::BTreeSet;
 
 /// The most commands that a table may have.
 pub const MOST_COMMANDS: u64 = 32;
 
-/// What the walk copies from one IOPB, its code, and the steps taken so far.
+/// What the walk copies from one IOPB and its link list, its code, and the
+/// steps taken so far.
 #[derive(Clone, Copy, Debug, Default, PartialEq, Eq)]
 pub struct Record {
     pub iopb: u32,
@@ -18,6 +21,10 @@ pub struct Record {
     pub count: u16,
     pub byte0: u8,
     pub code: u8,
+    /// How many ranges the list has; 0 where the command has no list. A table
+    /// made by hand may claim more than there is room for.
+    pub ranges: u32,
+    pub list: [Range; MOST_ELEMENTS as usize],
 }
 
 impl Record {
@@ -61,6 +68,21 @@ impl Record {
     pub fn data_bytes(&self) -> u64 {
         SECTOR_BYTES * u64::from(self.count)
     }
+
+    /// It has a list exactly if it has a range; byte 0 has no say in it.
+    pub fn has_list(&self) -> bool {
+        self.ranges != 0
+    }
+
+    /// The ranges that its data lies in, in order: those of its list, or the
+    /// one at its data address. Of too many there are as many as there is room.
+    pub fn data_ranges(&self) -> Vec<Range> {
+        if !self.has_list() {
+            return vec![Range { address: self.data, length: self.data_bytes() as u32 }];
+        }
+        let ranges = u64::from(self.ranges).min(MOST_ELEMENTS);
+        self.list[..ranges as usize].to_vec()
+    }
 }
 
 /// Each thing that makes a table unsound.
@@ -71,6 +93,9 @@ pub enum Cause {
     TakenAbove,
     CountZero,
     DataOutside,
+    RangesOverThirtyTwo,
+    RangeOutside,
+    LengthsOff,
     SectorsOutside,
     WriteProtected,
 }
@@ -103,14 +128,28 @@ fn causes_in_record(board: &Board, record: &Record, found: &mut BTreeSet<Cause>)
     if record.count == 0 {
         found.insert(Cause::CountZero);
     }
-    if !board.in_memory(u64::from(record.data), record.data_bytes()) {
-        found.insert(Cause::DataOutside);
-    }
+    causes_in_data(board, record, found);
     let past_last = u64::from(record.sector) + u64::from(record.count);
     if past_last > board.drive.number_of_sectors() {
         found.insert(Cause::SectorsOutside);
     }
     if record.writes_sectors() && board.drive.protected {
         found.insert(Cause::WriteProtected);
+    }
+}
+
+/// What is wrong with the ranges of a transfer. The one range of a command
+/// without a list has the right length and is one only, so of these it can
+/// merely be outside.
+fn causes_in_data(board: &Board, record: &Record, found: &mut BTreeSet<Cause>) {
+    let ranges = record.data_ranges();
+    if u64::from(record.ranges) > MOST_ELEMENTS {
+        found.insert(Cause::RangesOverThirtyTwo);
+    }
+    if !ranges.iter().all(|range| range.in_memory(board)) {
+        found.insert(if record.has_list() { Cause::RangeOutside } else { Cause::DataOutside });
+    }
+    if sum_of_lengths(&ranges) != record.data_bytes() {
+        found.insert(Cause::LengthsOff);
     }
 }

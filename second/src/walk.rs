@@ -1,9 +1,11 @@
 //! The walk: from a first address along the chain, copying what is needed of
-//! every IOPB into the table before anything moves.
+//! every IOPB and of its link list into the table before anything moves.
 
 use crate::board::Board;
-use crate::code::{code_of, next_misaligned};
+use crate::code::{find, next_misaligned};
 use crate::iopb::{fields_at, Fields, IOPB_BYTES};
+use crate::link_list::MOST_ELEMENTS;
+use crate::range::Range;
 use crate::record::{Record, MOST_COMMANDS};
 use std::collections::BTreeSet;
 
@@ -65,6 +67,10 @@ fn follow(board: &Board, start: u64, reached: &mut Vec<u64>) -> Result<Vec<Recor
 fn record_of(board: &Board, address: u64, fields: &Fields) -> Record {
     let drive = &board.drive;
     let sector = drive.sector_number(fields.cylinder, fields.head, fields.sector);
+    let found = find(board, address, fields);
+    // The places past the last range are set too: to address 0, length 0.
+    let mut list = [Range::default(); MOST_ELEMENTS as usize];
+    list[..found.list.len()].copy_from_slice(&found.list);
     Record {
         iopb: address as u32,
         data: fields.data as u32,
@@ -72,6 +78,8 @@ fn record_of(board: &Board, address: u64, fields: &Fields) -> Record {
         taken: 0,
         count: fields.count as u16,
         byte0: board.memory[address as usize],
-        code: code_of(board, fields),
+        code: found.code,
+        ranges: found.list.len() as u32,
+        list,
     }
 }

@@ -9,6 +9,7 @@ use second::pick::pick;
 use second::record::Record;
 use second::run::{all_finished, run_picks, run_written};
 use second::walk::walk;
+use std::collections::{BTreeMap, BTreeSet};
 
 const CHAINS: u64 = 10_000;
 
@@ -35,14 +36,21 @@ fn random_board(rng: &mut Rng) -> Board {
     Board { memory: rng.bytes(length), image, drive }
 }
 
+fn put(board: &mut Board, address: u64, bytes: &[u8]) {
+    let at = address as usize;
+    board.memory[at..at + bytes.len()].copy_from_slice(bytes);
+}
+
 /// The next accepted chain; refused ones are left out.
 fn next_chain(rng: &mut Rng) -> Walked {
     loop {
         let mut board = random_board(rng);
         let chain = random_chain(rng, &board);
+        for (address, bytes) in &chain.lists {
+            put(&mut board, *address, bytes);
+        }
         for (address, block) in &chain.blocks {
-            let at = *address as usize;
-            board.memory[at..at + 30].copy_from_slice(&block.bytes);
+            put(&mut board, *address, &block.bytes);
         }
         let mut table = [Record::default(); 32];
         let reply = walk(&board, &mut table, chain.start);
@@ -57,6 +65,11 @@ fn random_picks(rng: &mut Rng, commands: u64) -> Vec<u8> {
     (0..length).map(|_| rng.below(commands + 2) as u8).collect()
 }
 
+/// Some command of the chain moves its data by a link list.
+fn has_lists(walked: &Walked) -> bool {
+    walked.table.iter().any(|record| record.is_transfer() && record.has_list())
+}
+
 fn sum_of_steps(table: &Table, commands: u64) -> u64 {
     table[..commands as usize].iter().map(Record::steps).sum()
 }
@@ -64,8 +77,11 @@ fn sum_of_steps(table: &Table, commands: u64) -> u64 {
 #[test]
 fn any_picks_then_as_written_end_alike() {
     let mut rng = Rng::new(31);
+    let mut with_lists = 0;
     for _ in 0..CHAINS {
-        let Walked { mut board, mut table, commands } = next_chain(&mut rng);
+        let walked = next_chain(&mut rng);
+        with_lists += u64::from(has_lists(&walked));
+        let Walked { mut board, mut table, commands } = walked;
         let sum = sum_of_steps(&table, commands);
         let mut whole_board = board.clone();
         let mut whole_table = table;
@@ -84,6 +100,7 @@ fn any_picks_then_as_written_end_alike() {
         assert_eq!(board, whole_board);
         assert_eq!(table, whole_table);
     }
+    assert!(with_lists > CHAINS / 4, "only {with_lists} chains had lists");
 }
 
 #[test]
@@ -139,56 +156,87 @@ fn refused_calls_change_no_byte() {
     }
 }
 
-/// Each sector as last written by a step of a chain, if it was.
-type Written = Vec<Option<Vec<u8>>>;
+/// What a step of a chain last wrote to a sector, and whether by a list.
+#[derive(Clone)]
+struct Written {
+    bytes: Vec<u8>,
+    by_list: bool,
+}
 
-/// Takes one step as written, and holds a read against what was last written.
-/// Gives whether there was anything to hold it against.
-fn step_and_compare(walked: &mut Walked, written: &mut Written) -> bool {
+/// The addresses of the sector that a transfer moves next: those of all its
+/// bytes, one after the other, and of these the right 512.
+fn next_addresses(record: &Record) -> Vec<usize> {
+    let mut all = Vec::new();
+    if record.ranges == 0 {
+        all.extend((0..512 * usize::from(record.count)).map(|k| record.data as usize + k));
+    }
+    for range in &record.list[..record.ranges as usize] {
+        all.extend((0..range.length as usize).map(|k| range.address as usize + k));
+    }
+    let from = 512 * record.taken as usize;
+    all[from..from + 512].to_vec()
+}
+
+fn distinct(addresses: &[usize]) -> bool {
+    addresses.iter().collect::<BTreeSet<_>>().len() == addresses.len()
+}
+
+/// Takes one step as written, and holds a read against what was last written,
+/// where no two of its bytes lie in one place. Gives whether there was anything
+/// to hold it against, and whether by lists: on the write's side, the read's.
+fn step_and_compare(walked: &mut Walked, written: &mut [Option<Written>]) -> Option<(bool, bool)> {
     let Walked { board, table, commands } = walked;
     let place = table.iter().position(|record| !record.finished()).unwrap();
     let record = table[place];
-    let step = record.taken as usize;
-    let from = record.data as usize + 512 * step;
-    let sector = record.sector as usize + step;
+    let by_list = record.ranges > 0;
+    if !record.is_transfer() {
+        assert_eq!(run_written(board, table, *commands, 1).steps, 1);
+        return None;
+    }
+    let addresses = next_addresses(&record);
+    let sector = (record.sector + record.taken) as usize;
     if record.writes_sectors() {
-        written[sector] = Some(board.memory[from..from + 512].to_vec());
+        let bytes = addresses.iter().map(|address| board.memory[*address]).collect();
+        written[sector] = Some(Written { bytes, by_list });
     }
     assert_eq!(run_written(board, table, *commands, 1).steps, 1);
-    if !record.reads_sectors() {
-        return false;
+    if !record.reads_sectors() || !distinct(&addresses) {
+        return None;
     }
-    let Some(expected) = &written[sector] else {
-        return false;
-    };
+    let expected = written[sector].as_ref()?;
     let closed = table[place].finished();
     let status = record.iopb as usize..record.iopb as usize + 4;
-    for (k, byte) in expected.iter().enumerate() {
+    for (address, byte) in addresses.iter().zip(&expected.bytes) {
         // Its own close may lie over the data that it has just read.
-        if !(closed && status.contains(&(from + k))) {
-            assert_eq!(board.memory[from + k], *byte);
+        if !(closed && status.contains(address)) {
+            assert_eq!(board.memory[*address], *byte);
         }
     }
-    true
+    Some((expected.by_list, by_list))
 }
 
 #[test]
 fn a_sector_reads_back_as_it_was_written() {
     let mut rng = Rng::new(34);
-    let mut compared = 0;
+    let mut compared = BTreeMap::new();
     for _ in 0..CHAINS {
         let mut walked = next_chain(&mut rng);
         let sectors = walked.board.drive.number_of_sectors() as usize;
-        let mut written: Written = vec![None; sectors];
+        let mut written = vec![None; sectors];
         while !all_finished(&walked.table[..walked.commands as usize]) {
-            compared += u64::from(step_and_compare(&mut walked, &mut written));
+            if let Some(by_lists) = step_and_compare(&mut walked, &mut written) {
+                *compared.entry(by_lists).or_insert(0) += 1;
+            }
         }
         // Looked at in the end, every sector is as it was last written.
-        for (sector, bytes) in written.iter().enumerate() {
-            if let Some(bytes) = bytes {
+        for (sector, last) in written.iter().enumerate() {
+            if let Some(Written { bytes, .. }) = last {
                 assert_eq!(second::look::look(&walked.board, sector as u64), bytes.as_slice());
             }
         }
     }
-    assert!(compared > 1_000, "only {compared} reads had anything to compare");
+    for by_lists in [(false, false), (false, true), (true, false), (true, true)] {
+        let number = compared.get(&by_lists).copied().unwrap_or(0);
+        assert!(number > 300, "only {number} reads to compare, by lists {by_lists:?}");
+    }
 }

@@ -59,9 +59,18 @@ fn lines_outside_the_format_are_refused() {
         "place",
         "place 1 2",
         "place 4294967296",
-        "record 40 0 0 0 0 0 0 0",
-        "record 0 0 0 0 0 0 0",
-        "spoil 0 7 0",
+        "record 40 0 0 0 0 0 0 0 0",
+        "record 0 0 0 0 0 0 0 0",
+        "record 0 0 0 0 0 0 0 0 0 0",
+        "record 0 0 0 0 0 0 0 0 4294967296",
+        "range 40 0 0 0",
+        "range 0 32 0 0",
+        "range 0 0 4294967296 0",
+        "range 0 0 0 65536",
+        "range 0 0 0",
+        "range 0 0 0 0 0",
+        "spoil 0 8 0",
+        "spoil 0 7 4294967296",
         "spoil 0 4 65536",
         "spoil 0 5 256",
         "commands 4294967296",
@@ -92,7 +101,7 @@ fn the_seed_decides_everything() {
 #[test]
 fn nothing_counted_stays_at_zero() {
     let random = cases(1, 3_000);
-    assert!(random.len() < 3_000_000, "{} bytes of cases", random.len());
+    assert!(random.len() < 4_000_000, "{} bytes of cases", random.len());
     let text = all_lines().text() + &random + &deck_cases(1, 300);
     let tally = count_cases(text.as_bytes()).expect("the makers keep to the format");
     for (name, count) in tally.rows() {
@@ -100,7 +109,7 @@ fn nothing_counted_stays_at_zero() {
     }
 }
 
-/// The worked case of docs/CASES.md. Its digests were worked out apart from
+/// The worked cases of docs/CASES.md. Their digests were worked out apart from
 /// this program.
 const WORKED_CASE: &str = "case 1
 drive 0 0 1 1 0
@@ -122,22 +131,65 @@ written 5
 ";
 
 const WORKED_ANSWERS: &str = "case 1
-walk 0 2 90fa2ead 743661c5 cf972e8d
+walk 0 2 90fa2ead 743661c5 efb81cad
 steps 2
-pick 6 90fa2ead 743661c5 cf972e8d
-pick 0 7344e078 743661c5 4203bee0
+pick 6 90fa2ead 743661c5 efb81cad
+pick 0 7344e078 743661c5 403e9080
 fields 0 1 1 0 2 0 0 1 1 0 0 0 1 0 0 1 512 32
-picks 0 1 2 1 d20f30c3 498e2dc5 d8aec143
+picks 0 1 2 1 d20f30c3 498e2dc5 3d9bb533
 look 0 512 cd3565c5
 look 0 512 cd3565c5
 look 10 0 811c9dc5
 view 2 0 0 0 0 0 0 0 0 0 0 0 0 0 0 0 0 0 0
-written 0 0 1 d20f30c3 498e2dc5 d8aec143
+written 0 0 1 d20f30c3 498e2dc5 3d9bb533
 ";
 
-#[test]
-fn the_worked_case() {
+const LIST_CASE: &str = "case 2
+drive 0 0 1 1 0
+memory 1024 0 0
+image 1024 7 1 1
+put 0 18 0 0 0 0 0 16 0 0 1 0 0 0 1 0 0 0 0 0 64
+put 64 0 100 0 0 0 0 2 0 1 156 0 0 0 0 1 0
+walk 0
+pick 0
+record 1 32 64 1 0 1 2 0 2
+range 1 0 512 100
+range 1 1 256 411
+commands 2
+pick 1
+range 1 1 256 412
+pick 1
+";
+
+const LIST_ANSWERS: &str = "case 2
+walk 0 1 762f5a09 ce2459c5 a593a577
+pick 0 d9d2f82e ce2459c5 f61a194a
+pick 9 d9d2f82e ce2459c5 f4f45f49
+pick 0 131abf7b ce2459c5 37d83cbf
+";
+
+/// What a run of cases prints.
+fn played(cases: &str) -> String {
     let mut out = Vec::new();
-    run_cases(WORKED_CASE.as_bytes(), &mut out).unwrap();
-    assert_eq!(String::from_utf8(out).unwrap(), WORKED_ANSWERS);
+    run_cases(cases.as_bytes(), &mut out).unwrap();
+    String::from_utf8(out).unwrap()
+}
+
+#[test]
+fn the_worked_cases() {
+    assert_eq!(played(WORKED_CASE), WORKED_ANSWERS);
+    assert_eq!(played(LIST_CASE), LIST_ANSWERS);
+}
+
+/// A range line sets one range alone, and a record line sets all to 0. The
+/// digests were worked out apart from this program.
+#[test]
+fn ranges_in_the_digest() {
+    let ground = "case 1\ndrive 0 0 0 0 0\nimage 512 0 0 0\nrecord 1 1 2 3 4 5 6 7 8\n";
+    let ranges = "range 1 0 9 10\nrange 1 31 4294967295 65535\npick 0\n";
+    let more = "spoil 1 7 4294967295\npick 0\nrecord 1 1 2 3 4 5 6 7 8\npick 0\n";
+    let answers = played(&format!("{ground}{ranges}{more}"));
+    let tables: Vec<&str> =
+        answers.lines().skip(1).filter_map(|line| line.split(' ').last()).collect();
+    assert_eq!(tables, ["2b79dba2", "8742ccb2", "d61df8cd"]);
 }

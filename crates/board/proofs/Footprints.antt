@@ -1,6 +1,6 @@
 -- The footprints that a run by picks works out before its first pick: of each record one, whatever steps are taken of it later. Whether a
--- command blocks another is seen by them and by the steps taken.
-use mathlib.Core.Path.{_≡_, sym, ap, ap₂, _∙_}
+-- command blocks another is seen by them, by the ranges of both where they meet, and by the steps taken.
+use mathlib.Core.Path.{_≡_, refl, sym, ap, ap₂, _∙_}
 use Prim.Native.Nat.{ℕ, _+_, _≤_, _<_}
 use native.Mathlib.Omega.{arith}
 use mathlib.Core.Bool.{Bool, false}
@@ -16,7 +16,7 @@ use Rattle.meaning.specs.Touch.{touched, conflict}
 use Rattle.meaning.proofs.Means.{Means, holds, fails, means-eq}
 use Rattle.command.specs.declared.touch.Footprint.{Footprint}
 use Rattle.command.specs.Footprints.{noFootprint, footprintOf, footprintsMeet}
-use Rattle.command.proofs.Touching.{conflict-is}
+use Rattle.command.proofs.Touching.{no-conflict}
 use Rattle.board.specs.Changes.{withTaken}
 use Rattle.board.proofs.Searching.{blocking, finished-free, by-conflict}
 
@@ -45,12 +45,18 @@ module _ (f g : Footprint) (e r : Record) (n m : ℕ) (ef : f ≡ footprintOf e)
   unfolding finished stepsOf withTaken footprintOf
   finished-is = ap (λ (x : Footprint). leb (x .steps) n) (sym ef)
 
-  conflict-met : conflict (withTaken n e) (withTaken m r) ≡ footprintsMeet f g
+  conflict-met : conflict (withTaken n e) (withTaken m r) ≡ conflict e r
   unfolding conflict touched withTaken
-  conflict-met = conflict-is e r ∙ ap₂ footprintsMeet (sym ef) (sym eg)
+  conflict-met = refl
 
   pub done-free : f .steps ≤ n → blocking (withTaken m r) (withTaken n e) ≡ false
   done-free h = finished-free (withTaken m r) (withTaken n e) (finished-is ∙ le-leb (f .steps) n h)
 
-  pub by-footprints : (b : Bool) → n < f .steps → footprintsMeet f g ≡ b → blocking (withTaken m r) (withTaken n e) ≡ b
-  by-footprints b h c = by-conflict (withTaken m r) (withTaken n e) b (finished-is ∙ lt-leb (f .steps) n h) (conflict-met ∙ c)
+  -- footprints that do not meet, and, where they do, the ranges of both
+  pub apart-free : n < f .steps → footprintsMeet f g ≡ false → blocking (withTaken m r) (withTaken n e) ≡ false
+  apart-free h c =
+      by-conflict (withTaken m r) (withTaken n e) false (finished-is ∙ lt-leb (f .steps) n h)
+      (conflict-met ∙ no-conflict e r (ap₂ footprintsMeet (sym ef) (sym eg) ∙ c))
+
+  pub by-ranges : (b : Bool) → n < f .steps → conflict e r ≡ b → blocking (withTaken m r) (withTaken n e) ≡ b
+  by-ranges b h c = by-conflict (withTaken m r) (withTaken n e) b (finished-is ∙ lt-leb (f .steps) n h) (conflict-met ∙ c)

@@ -2,6 +2,7 @@
 -- search for a blocking command, and what the tests of a pick show; then tables that differ in their steps taken, and the loops of the two runs.
 pub mod Edge
 pub mod Copying
+pub mod Windows
 pub mod Moving
 pub mod Searching
 pub mod Picking

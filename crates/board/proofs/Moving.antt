@@ -1,90 +1,115 @@
--- Several steps of one command at once. Its sectors lie side by side on the disk and in memory, so moved one after another they are moved
--- as one part; no step but the last closes the command.
-use mathlib.Core.Path.{_≡_, refl, sym, ap, _∙_}
-use Prim.Native.Nat.{ℕ, zero, suc, _+_, _-_, _*_, _≤_, _<_}
+-- Several steps of one command at once. Its sectors, moved one after another, are moved as some bytes of its data at once (`Windows`), which
+-- without a list lie in one piece; no step but the last closes the command.
+use mathlib.Core.Path.{_≡_, refl, sym, ap, ap₂, subst, _∙_}
+use mathlib.Core.Logic.{_≢_}
+use Prim.Native.Nat.{ℕ, zero, suc, _+_, _*_, _≤_, _<_}
 use native.Mathlib.Nat.{not-suc-le-zero}
 use native.Mathlib.Omega.{arith}
 use mathlib.Core.Bool.{Bool, true, false, cond}
-use mathlib.Core.List.{List}
+use mathlib.Core.List.{List, [], _∷_, map}
 use lib.ListN.{length, take, drop}
 use lib.Seq.{sets}
 use borrow.Author.Tests.{eq-eqb, ne-eqb}
 use Rattle.meaning.specs.declared.Drive.{Drive}
+use Rattle.meaning.specs.declared.Link.{Link}
 use Rattle.meaning.specs.declared.Record.{Record}
-use Rattle.meaning.specs.Store.{Store, memory, lent, theDisk, get, Move, move, moves}
+use Rattle.meaning.specs.Store.{Store, memory, lent, theDisk, area, get, Move, copy, move, moves}
 use Rattle.meaning.specs.Sectors.{sectorBytes}
-use Rattle.meaning.specs.Command.{reads, writes, transfers, stepsOf, remaining}
+use Rattle.meaning.specs.Ranges.{Range, bytes}
+use Rattle.meaning.specs.Links.{rangeOf}
+use Rattle.meaning.specs.Pieces.{Piece}
+use Rattle.meaning.specs.Command.{reads, writes, transfers, stepsOf, remaining, linksOf}
 use Rattle.meaning.specs.Step.{sectorMove, closingByte0, closing, closeMove, stepMoves, step, stepped}
 use Rattle.meaning.specs.Sizes.{storeWrong}
 use Rattle.meaning.specs.Pick.{badRecord}
 use Rattle.meaning.specs.Run.{stepsDone}
+use Rattle.meaning.proofs.All.{All}
 use Rattle.meaning.proofs.Rows.{pass, stop}
 use Rattle.meaning.proofs.Spaces.{moves-append}
-use Rattle.meaning.proofs.Conditions.{good, right-store}
+use Rattle.meaning.proofs.Conditions.{good, right-store, Inside}
+use Rattle.meaning.proofs.Pieces.{data-plain, data-listed}
 use Rattle.board.specs.Ready.{Ready}
-use Rattle.board.specs.Moved.{sectorsMoved}
+use Rattle.board.specs.Moved.{sectorsMoved, onDisk, pieceMove, windowMoved}
 use Rattle.board.proofs.Edge.{put-memory, put-disk}
-use Rattle.board.proofs.Copying.{copied-behind}
+use Rattle.board.proofs.Windows.{sectors-window, plain-window}
 
--- where the next step of a command finds its sector, and its data
-abbrev pub onDisk : Record → ℕ
-onDisk r = sectorBytes * (r .sector + r .taken)
+-- where the next step of a command without a list finds its sector, and its data
+abbrev pub sectorAt : Record → ℕ
+sectorAt r = sectorBytes * (r .sector + r .taken)
 
-abbrev pub inMemory : Record → ℕ
-inMemory r = r .address + sectorBytes * r .taken
+abbrev pub dataAt : Record → ℕ
+dataAt r = r .address + sectorBytes * r .taken
 
 -- n bytes of one list, from a place on, at a place of another
 abbrev pub copied : ℕ → List ℕ → ℕ → List ℕ → ℕ → List ℕ
 copied n src from dst to = sets dst to (take n (drop from src))
 
--- ---- one sector, by the kind of its command
+-- ---- the sectors of several steps, by the kind of their command
 
-module _ (r : Record) (m i : List ℕ) where
-  one-read : reads r ≡ true → moves (sectorMove r (r .taken)) (lent m i) ≡ lent (copied sectorBytes i (onDisk r) m (inMemory r)) i
-  unfolding sectorMove moves move get
-  one-read e = ap (λ (vs : List Move). moves vs (lent m i)) (stop _ _ _ e) ∙ put-memory m i (take sectorBytes (drop (onDisk r) i)) (inMemory r)
+module _ (n : ℕ) (r : Record) (m i : List ℕ) (plain : r .ranges ≡ 0) (y : Ready n r (lent m i)) (t : transfers r ≡ true) where
+  abbrev lo : ℕ
+  lo = sectorBytes * r .taken
 
-  one-written : reads r ≡ false → writes r ≡ true → moves (sectorMove r (r .taken)) (lent m i) ≡ lent m (copied sectorBytes m (inMemory r) i (onDisk r))
-  unfolding sectorMove moves move get
-  one-written e w = ap (λ (vs : List Move). moves vs (lent m i)) (pass _ _ _ e ∙ stop _ _ _ w) ∙ put-disk m i (take sectorBytes (drop (inMemory r) m)) (onDisk r)
+  abbrev one : Piece
+  one = record { at = lo; from = r .address + lo; many = sectorBytes * n }
+
+  -- all in one piece
+  one-piece : (rd : Bool) → reads r ≡ rd → sectorsMoved n r (lent m i) ≡ move (pieceMove rd (onDisk r) one) (lent m i)
+  one-piece rd e =
+      let few = y .left t in
+      sectors-window n r (lent m i) t (y .sectors t) (y .bytes t)
+      ∙ ap₂ (λ (b : Bool) (rs : List Range). windowMoved b (onDisk r) rs 0 lo (lo + sectorBytes * n) (lent m i)) e (data-plain r plain)
+      ∙ plain-window rd (onDisk r) (r .address) (sectorBytes * r .count) lo (sectorBytes * n) (lent m i) (omega arith)
+
+  on-disk : onDisk r + lo ≡ sectorAt r
+  on-disk = omega arith
+
+  pub read-moved : reads r ≡ true → sectorsMoved n r (lent m i) ≡ lent (copied (sectorBytes * n) i (sectorAt r) m (dataAt r)) i
+  unfolding move get
+  read-moved e =
+      one-piece true e
+      ∙ ap (λ (k : ℕ). move (copy (area theDisk k (sectorBytes * n)) memory (dataAt r)) (lent m i)) on-disk
+      ∙ put-memory m i (take (sectorBytes * n) (drop (sectorAt r) i)) (dataAt r)
+
+  pub write-moved : reads r ≡ false → sectorsMoved n r (lent m i) ≡ lent m (copied (sectorBytes * n) m (dataAt r) i (sectorAt r))
+  unfolding move get
+  write-moved e =
+      one-piece false e
+      ∙ ap (λ (k : ℕ). move (copy (area memory (dataAt r) (sectorBytes * n)) theDisk k) (lent m i)) on-disk
+      ∙ put-disk m i (take (sectorBytes * n) (drop (dataAt r) m)) (sectorAt r)
+
+  -- room for them
+  pub room-on-disk : sectorAt r + sectorBytes * n ≤ length i
+  room-on-disk = omega (arith, y .sectors t)
+
+  pub room-in-memory : dataAt r + sectorBytes * n ≤ length m
+  room-in-memory =
+      let few = y .left t in
+      let all : All (Inside (length m)) (bytes (r .address) (sectorBytes * r .count) ∷ []) = subst (All (Inside (length m))) (data-plain r plain) (y .bytes t) in
+      omega (arith, all .0)
 
 one-other : (r : Record) (s : Store) → reads r ≡ false → writes r ≡ false → moves (sectorMove r (r .taken)) s ≡ s
 unfolding sectorMove moves
 one-other r s e w = ap (λ (vs : List Move). moves vs s) (pass _ _ _ e ∙ pass _ _ _ w)
 
--- ---- several sectors
-
-more : (k : ℕ) → sectorBytes + sectorBytes * k ≡ sectorBytes * suc k
-more k = omega arith
-
-pub read-moved : (n : ℕ) (r : Record) (m i : List ℕ) → reads r ≡ true → onDisk r + sectorBytes * n ≤ length i
-    → sectorsMoved n r (lent m i) ≡ lent (copied (sectorBytes * n) i (onDisk r) m (inMemory r)) i
-unfolding sectorsMoved stepped
-read-moved zero r m i e h = refl
-read-moved (suc k) r m i e h =
-    let m₁ = copied sectorBytes i (onDisk r) m (inMemory r) in
-    ap (sectorsMoved k (stepped r)) (one-read r m i e)
-    ∙ read-moved k (stepped r) m₁ i e (omega arith)
-    ∙ ap (λ (x : List ℕ). lent x i)
-    (copied-behind sectorBytes (sectorBytes * k) i m (inMemory r) (onDisk r) (inMemory (stepped r)) (onDisk (stepped r)) (omega arith) (omega arith) (omega arith)
-    ∙ ap (λ (c : ℕ). copied c i (onDisk r) m (inMemory r)) (more k))
-
-pub write-moved : (n : ℕ) (r : Record) (m i : List ℕ) → reads r ≡ false → writes r ≡ true → inMemory r + sectorBytes * n ≤ length m
-    → sectorsMoved n r (lent m i) ≡ lent m (copied (sectorBytes * n) m (inMemory r) i (onDisk r))
-unfolding sectorsMoved stepped
-write-moved zero r m i e w h = refl
-write-moved (suc k) r m i e w h =
-    let i₁ = copied sectorBytes m (inMemory r) i (onDisk r) in
-    ap (sectorsMoved k (stepped r)) (one-written r m i e w)
-    ∙ write-moved k (stepped r) m i₁ e w (omega arith)
-    ∙ ap (λ (x : List ℕ). lent m x)
-    (copied-behind sectorBytes (sectorBytes * k) m i (onDisk r) (inMemory r) (onDisk (stepped r)) (inMemory (stepped r)) (omega arith) (omega arith) (omega arith)
-    ∙ ap (λ (c : ℕ). copied c m (inMemory r) i (onDisk r)) (more k))
-
 pub none-moved : (n : ℕ) (r : Record) (s : Store) → reads r ≡ false → writes r ≡ false → sectorsMoved n r s ≡ s
 unfolding sectorsMoved stepped
 none-moved zero r s e w = refl
 none-moved (suc k) r s e w = ap (sectorsMoved k (stepped r)) (one-other r s e w) ∙ none-moved k (stepped r) s e w
+
+-- a transfer with a list: piece by piece
+pub listed-moved : (n : ℕ) (r : Record) (s : Store) → r .ranges ≢ 0 → Ready n r s → transfers r ≡ true
+    → sectorsMoved n r s ≡ windowMoved (reads r) (onDisk r) (map rangeOf (linksOf r)) 0 (sectorBytes * r .taken) (sectorBytes * r .taken + sectorBytes * n) s
+listed-moved n r s listed y t =
+    sectors-window n r s t (y .sectors t) (y .bytes t)
+    ∙ ap (λ (rs : List Range). windowMoved (reads r) (onDisk r) rs 0 (sectorBytes * r .taken) (sectorBytes * r .taken + sectorBytes * n) s) (data-listed r listed)
+
+pub links-inside : (n : ℕ) (r : Record) (s : Store) → r .ranges ≢ 0 → Ready n r s → transfers r ≡ true → All (λ x. Inside (length (s memory)) (rangeOf x)) (linksOf r)
+links-inside n r s listed y t = each (linksOf r) (subst (All (Inside (length (s memory)))) (data-listed r listed) (y .bytes t))
+  where
+    each : (xs : List Link) → All (Inside (length (s memory))) (map rangeOf xs) → All (λ x. Inside (length (s memory)) (rangeOf x)) xs
+    each [] h = tt
+    each (x ∷ xs) h = (h .0, each xs (h .1))
 
 -- ---- steps as moves and a close
 
@@ -167,17 +192,10 @@ ready d s r n e b h =
     let w = right-store d s e in
     record {
       status = omega (arith, g .placed);
-      bytes = λ t k l. omega (arith, g .bytes-in t, steps-transfer r t);
-      sector = λ t k l. omega (arith, g .sectors-in t, steps-transfer r t, w .image-exact);
+      left = λ t. omega (arith, steps-transfer r t, g .few);
+      bytes = g .bytes-in;
+      sectors = λ t. omega (arith, g .sectors-in t, steps-transfer r t, g .few, w .image-exact);
     }
-
--- room for n sectors in one piece
-module _ (n : ℕ) (r : Record) (s : Store) (y : Ready n r s) (h : 1 ≤ n) (t : transfers r ≡ true) where
-  pub room-on-disk : onDisk r + sectorBytes * n ≤ length (s theDisk)
-  room-on-disk = omega (arith, y .sector t (n - 1) (omega arith))
-
-  pub room-in-memory : inMemory r + sectorBytes * n ≤ length (s memory)
-  room-in-memory = omega (arith, y .bytes t (n - 1) (omega arith))
 
 -- a command has few steps, since its count is sixteen bits; so one that is not finished has taken few
 pub steps-small : (r : Record) → r .count < 65536 → stepsOf r < 65536

@@ -15,7 +15,7 @@ use Rattle.meaning.specs.Each.{someOf}
 use Rattle.meaning.specs.Store.{Store, lent}
 use Rattle.meaning.specs.State.{State, mostCommands}
 use Rattle.meaning.specs.Sizes.{storeWrong, sizesWrong}
-use Rattle.meaning.specs.Command.{finished, noRecord}
+use Rattle.meaning.specs.Command.{finished, noRecord, blankRecord}
 use Rattle.meaning.specs.Step.{step, stepped}
 use Rattle.meaning.specs.Pick.{badTransfer, badRecord, spoiled, waits, placeNumber, pickNumber, stepAt, picked}
 use Rattle.meaning.proofs.Rows.{pass, stop, or-first, or-second, or-false}
@@ -100,7 +100,7 @@ module _ (d : Drive) (n p many : ℕ) (s : State) where
   refused-changes k r er e h =
       let u = handed many s in
       let off = ne-eqb (pickNumber d n p u) 0 (λ q. h (sym e ∙ q)) in
-      let none = pass (eqb (pickNumber d n p u) 0) (stepped (getD (u .table) p noRecord)) noRecord off in
+      let none = pass (eqb (pickNumber d n p u) 0) (stepped (getD (u .table) p noRecord)) blankRecord off in
       let same : refusedPick k ≡ pickChanges d n p u = λ j. record { number = sym e j; after = sym none j } in
       (er ∙ same, sym (ap (λ (x : State). x .store) (pass _ _ _ off)))
 
@@ -110,6 +110,6 @@ module _ (d : Drive) (n p many : ℕ) (s : State) where
   unfolding PickChanges pickChanges picked stepAt
   accepted-changes r u same e er eu =
       let on = eq-eqb (pickNumber d n p s) 0 e in
-      let done = er ∙ sym (stop (eqb (pickNumber d n p s) 0) (stepped (getD (s .table) p noRecord)) noRecord on) in
+      let done = er ∙ sym (stop (eqb (pickNumber d n p s) 0) (stepped (getD (s .table) p noRecord)) blankRecord on) in
       subst (λ (x : State). (record { number = 0; after = r } ≡ pickChanges d n p x) × (u ≡ picked d n p x .store)) (sym same)
       (λ j. record { number = sym e j; after = done j }, eu ∙ sym (ap (λ (x : State). x .store) (stop _ _ _ on)))

@@ -12,7 +12,7 @@ use Rattle.meaning.specs.declared.Record.{Record}
 use Rattle.meaning.specs.declared.Ran.{Ran}
 use Rattle.meaning.specs.Store.{Store}
 use Rattle.meaning.specs.State.{State}
-use Rattle.meaning.specs.Command.{noRecord}
+use Rattle.meaning.specs.Command.{noRecord, blankRecord}
 use Rattle.meaning.specs.Step.{stepped}
 use Rattle.meaning.specs.Pick.{pickNumber, picked}
 use Rattle.meaning.specs.Run.{Tally, runNumber, ranTo, runReply}
@@ -29,9 +29,11 @@ withTaken n r =
       address = r .address;
       sector = r .sector;
       taken = n;
+      ranges = r .ranges;
       count = r .count;
       byte0 = r .byte0;
       code = r .code;
+      list = r .list;
     }
 
 -- a table with these steps taken of its first records; those past them are as they are
@@ -54,14 +56,14 @@ handed length s = record { table = take length (s .table); store = s .store }
 -- ---- a pick
 
 abbrev pub refusedPick : ℕ → PickedRecord
-refusedPick k = record { number = k; after = noRecord }
+refusedPick k = record { number = k; after = blankRecord }
 
 -- its number, and on 0 the record at its place after its step
 unfoldable pub pickChanges : Drive → ℕ → ℕ → State → PickedRecord
 unfolding pickNumber stepped
 pickChanges d n p s =
     let k = pickNumber d n p s in
-    record { number = k; after = cond (eqb k 0) (stepped (getD (s .table) p noRecord)) noRecord }
+    record { number = k; after = cond (eqb k 0) (stepped (getD (s .table) p noRecord)) blankRecord }
 
 unfoldable pub PickChanges : Drive → ℕ → ℕ → ℕ → State → PickedRecord → Store → Type 0
 unfolding pickChanges picked

@@ -1,10 +1,31 @@
--- The sectors of several steps, moved one after another with no close between them.
-use Prim.Native.Nat.{ℕ, zero, suc}
+-- The sectors of several steps, moved one after another with no close between them; and some bytes of the data, moved at once, in the pieces
+-- of their ranges. proofs/Windows proves that the one is the other.
+use Prim.Native.Nat.{ℕ, zero, suc, _+_, _*_}
+use mathlib.Core.Bool.{Bool, cond}
+use mathlib.Core.List.{List, map}
 use Rattle.meaning.specs.declared.Record.{Record}
-use Rattle.meaning.specs.Store.{Store, moves}
-use Rattle.meaning.specs.Step.{sectorMove, stepped}
+use Rattle.meaning.specs.Store.{Store, memory, theDisk, area, Move, copy, moves}
+use Rattle.meaning.specs.Sectors.{sectorBytes}
+use Rattle.meaning.specs.Ranges.{Range}
+use Rattle.meaning.specs.Pieces.{Piece, piecesOf}
+use Rattle.meaning.specs.Step.{inMemory, sectorMove, stepped}
 
 unfoldable pub sectorsMoved : ℕ → Record → Store → Store
 unfolding moves sectorMove stepped
 sectorsMoved zero r s = s
 sectorsMoved (suc k) r s = sectorsMoved k (stepped r) (moves (sectorMove r (r .taken)) s)
+
+-- where a command's data begins on the disk
+abbrev pub onDisk : Record → ℕ
+onDisk r = sectorBytes * r .sector
+
+-- a piece of data that begins at `from` on the disk: to memory where it is read, to the disk where it is written
+abbrev pub pieceMove : Bool → ℕ → Piece → Move
+pieceMove reading from p =
+    cond reading (copy (area theDisk (from + p .at) (p .many)) memory (inMemory p .from))
+    (copy (inMemory p) theDisk (from + p .at))
+
+-- bytes lo up to hi of the data in these ranges, of which the first is byte b of the data
+unfoldable pub windowMoved : Bool → ℕ → List Range → ℕ → ℕ → ℕ → Store → Store
+unfolding moves
+windowMoved reading from rs b lo hi s = moves (map (pieceMove reading from) (piecesOf rs b lo hi)) s

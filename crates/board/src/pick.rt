@@ -3,6 +3,7 @@
 use crate::RECORDS;
 use crate::step;
 use crate::table;
+use chain::links;
 use chain::sizes;
 use command::sound;
 use command::touch;
@@ -27,14 +28,17 @@ pub struct PickedRecord {
 fn refused(number: u8) -> PickedRecord
     ensures { λ r. ⌜ r ≡ refusedPick number ⌝ }
 {
+    let list = links::no_links();
     let after = Record {
         iopb: 0,
         address: 0,
         sector: 0,
         taken: 0,
+        ranges: 0,
         count: 0,
         byte0: 0,
         code: 0,
+        list,
     };
     PickedRecord { number, after }
 }

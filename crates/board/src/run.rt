@@ -136,7 +136,7 @@ fn picks_alike(picks: &[u8], from: usize, left: u32) -> u32
 // read the table stand here, since a table that is passed on is copied. What two commands touch does not change with their steps, and a
 // command only ever comes nearer to its end: an earlier command that once did not block a place never blocks it again. So the search of
 // a pick goes on where the last one at its place stopped: `searched` holds how many earlier commands are known not to block it, and all
-// footprints are worked out before the first pick. Picks in a row at a place that may go take their steps at once.
+// footprints are worked out before the first pick. Only where two of them meet are the ranges of both tested. Picks in a row at a place that may go take their steps at once.
 pub fn picks_taken<'a>(
     memory: &'a mut [u8],
     image: &'a mut [u8],
@@ -194,7 +194,11 @@ pub fn picks_taken<'a>(
                 earlier += 1;
                 continue;
             }
-            if touch::footprints_meet(e, wanted) {
+            if !touch::footprints_meet(e, wanted) {
+                earlier += 1;
+                continue;
+            }
+            if touch::ranges_conflict(table[earlier], table[place]) {
                 searched[place] = earlier;
                 passed += 1;
                 continue 'picks;

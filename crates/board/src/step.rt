@@ -1,19 +1,28 @@
 // Steps of a command, one or several at once: its sectors move between memory and image, and the last step closes the command. Sectors
-// that follow each other lie side by side in both.
+// that follow each other lie side by side on the disk, and in memory either side by side too or in the ranges of a link list.
+use chain::links;
 use command::closing;
 use meaning::Drive;
+use meaning::Link;
 use meaning::Record;
 ghost use mathlib.Core.Path.{_≡_};
-ghost use Prim.Native.Nat.{_+_, _*_, _≤_};
+ghost use mathlib.Core.Logic.{_≢_};
+ghost use mathlib.Core.Bool.{true};
+ghost use mathlib.Core.List.{map};
+ghost use Prim.Native.Nat.{_+_, _-_, _*_, _≤_, min};
 ghost use lib.ListN.{length, take, drop};
 ghost use lib.Seq.{sets};
 ghost use Rattle.meaning.specs.Sectors.{sectorBytes};
-ghost use Rattle.meaning.specs.Store.{lent};
-ghost use Rattle.meaning.specs.Command.{remaining};
+ghost use Rattle.meaning.specs.Store.{lent, move};
+ghost use Rattle.meaning.specs.Links.{rangeOf};
+ghost use Rattle.meaning.specs.Pieces.{pieceOf};
+ghost use Rattle.meaning.specs.Command.{transfers, remaining};
 ghost use Rattle.meaning.specs.Step as step;
+ghost use Rattle.meaning.proofs.All.{All};
+ghost use Rattle.meaning.proofs.Conditions.{Inside};
 ghost use Rattle.meaning.specs.Run.{stepsDone};
 ghost use Rattle.board.specs.Ready.{Ready};
-ghost use Rattle.board.specs.Moved.{sectorsMoved};
+ghost use Rattle.board.specs.Moved.{sectorsMoved, pieceMove, windowMoved};
 
 // The bytes of a sector, as a place in memory or image counts them.
 const SECTOR_BYTES: usize = drive::SECTOR_BYTES as usize;
@@ -55,9 +64,96 @@ fn close(memory: &mut [u8], d: Drive, r: Record)
     memory[at + 3] = posted.internal;
 }
 
-// The sectors of the next n steps move between memory and image; a command that is no transfer moves none.
-fn move_sectors(memory: &mut [u8], image: &mut [u8], r: Record, n: u32)
-    requires { ⌜ (1 ≤ n) × Ready n r (lent (now memory) (now image)) ⌝ }
+// How many bytes of a range of this length come before byte v of the data, where its own first byte is byte b.
+fn before(length: usize, b: usize, v: usize) -> usize
+    ensures { λ n. ⌜ n ≡ min (v - b) length ⌝ }
+{
+    if v <= b {
+        return 0;
+    }
+    let past = v - b;
+    if past < length { past } else { length }
+}
+
+// What the range of an element holds of the data's bytes from lo up to hi moves between memory and image: to memory where `reading`. The
+// range begins at byte b of the data, and the data on the disk at `disk`.
+fn move_piece(
+    memory: &mut [u8],
+    image: &mut [u8],
+    reading: bool,
+    x: Link,
+    disk: usize,
+    b: usize,
+    lo: usize,
+    hi: usize,
+)
+    requires { ⌜ (x .address + x .length ≤ length (now memory)) × (disk + hi ≤ length (now image)) × (b ≤ 2_097_152) ⌝ }
+    ensures { λ _. ⌜ lent (now (memory .exit)) (now (image .exit)) ≡ move (pieceMove reading disk (pieceOf (rangeOf x) b lo hi)) (lent (now (memory .entry)) (now (image .entry))) ⌝ }
+{
+    let size = x.length as usize;
+    let skip = before(size, b, lo);
+    let end = before(size, b, hi);
+    if end <= skip {
+        return;
+    }
+    let in_memory = x.address as usize + skip;
+    let on_disk = disk + (b + skip);
+    if reading {
+        copy_part(image, on_disk, memory, in_memory, end - skip);
+        return;
+    }
+    copy_part(memory, in_memory, image, on_disk, end - skip);
+}
+
+// How many bytes the range of an element has.
+fn size_of(x: Link) -> usize
+    ensures { λ n. ⌜ n ≡ x .length ⌝ }
+    ensures within { λ n. ⌜ n ≤ 65_535 ⌝ }
+{
+    x.length as usize
+}
+
+// The data's bytes from lo up to hi, range after range of the first n of a list; the data on the disk begins at `disk`.
+fn move_pieces(
+    memory: &mut [u8],
+    image: &mut [u8],
+    reading: bool,
+    disk: usize,
+    list: [Link; 32],
+    n: u32,
+    lo: usize,
+    hi: usize,
+)
+    requires { ⌜ All (λ x. Inside (length (now memory)) (rangeOf x)) (take n list) × (disk + hi ≤ length (now image)) ⌝ }
+    ensures { λ _. ⌜ lent (now (memory .exit)) (now (image .exit)) ≡ windowMoved reading disk (map rangeOf (take n list)) 0 lo hi (lent (now (memory .entry)) (now (image .entry))) ⌝ }
+{
+    let last = links::held(n);
+    let mut b: usize = 0;
+    let mut k = 0;
+    while k < last {
+        let x = list[k];
+        move_piece(memory, image, reading, x, disk, b, lo, hi);
+        b += size_of(x);
+        k += 1;
+    }
+}
+
+// The sectors of the next n steps of a transfer with a list.
+fn move_listed(memory: &mut [u8], image: &mut [u8], r: Record, n: u32)
+    requires { ⌜ Ready n r (lent (now memory) (now image)) × (transfers r ≡ true) × (r .ranges ≢ 0) ⌝ }
+    ensures { λ _. ⌜ lent (now (memory .exit)) (now (image .exit)) ≡ sectorsMoved n r (lent (now (memory .entry)) (now (image .entry))) ⌝ }
+{
+    let reading = command::reads(r);
+    let disk = SECTOR_BYTES * r.sector as usize;
+    let lo = SECTOR_BYTES * r.taken as usize;
+    let hi = lo + SECTOR_BYTES * n as usize;
+    let list = r.list;
+    move_pieces(memory, image, reading, disk, list, r.ranges, lo, hi);
+}
+
+// The sectors of the next n steps of a command without a list: they lie side by side in memory too. A command that is no transfer moves none.
+fn move_plain(memory: &mut [u8], image: &mut [u8], r: Record, n: u32)
+    requires { ⌜ (1 ≤ n) × Ready n r (lent (now memory) (now image)) × (r .ranges ≡ 0) ⌝ }
     ensures { λ _. ⌜ lent (now (memory .exit)) (now (image .exit)) ≡ sectorsMoved n r (lent (now (memory .entry)) (now (image .entry))) ⌝ }
 {
     let step = r.taken as usize;
@@ -70,6 +166,21 @@ fn move_sectors(memory: &mut [u8], image: &mut [u8], r: Record, n: u32)
     }
     if command::writes(r) {
         copy_sectors(memory, in_memory, image, on_disk, sectors);
+        return;
+    }
+}
+
+// The sectors of the next n steps of a command move between memory and image.
+fn move_sectors(memory: &mut [u8], image: &mut [u8], r: Record, n: u32)
+    requires { ⌜ (1 ≤ n) × Ready n r (lent (now memory) (now image)) ⌝ }
+    ensures { λ _. ⌜ lent (now (memory .exit)) (now (image .exit)) ≡ sectorsMoved n r (lent (now (memory .entry)) (now (image .entry))) ⌝ }
+{
+    if r.ranges == 0 {
+        move_plain(memory, image, r, n);
+        return;
+    }
+    if command::transfers(r) {
+        move_listed(memory, image, r, n);
         return;
     }
 }

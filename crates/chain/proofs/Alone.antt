@@ -36,6 +36,7 @@ module _ (m : List ℕ) (a : ℕ) (all : a + iopbBytes ≤ length m) where
         byte0 = e 0 (omega arith) j;
         subfunction = e 4 (omega arith) j;
         unit = e 5 (omega arith) j % 8;
+        byte6 = e 6 (omega arith) j;
         head = e 0x0C (omega arith) j;
         sector = e 0x0D (omega arith) j;
         count = e 8 (omega arith) j * 256 + e 9 (omega arith) j;

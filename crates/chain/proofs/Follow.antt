@@ -1,6 +1,6 @@
 -- The walk's loop against `follow`: at its head the commands so far stand in the first n records, and what is left to follow is
 -- what was to follow from the start. One law for each way out of a turn, and one for a turn that goes on.
-use mathlib.Core.Path.{_≡_, refl, sym, ap, _∙_, subst₂}
+use mathlib.Core.Path.{_≡_, sym, ap, _∙_, subst₂}
 use Prim.Native.Nat.{ℕ, suc, _+_, _-_, _≤_, _<_}
 use native.Mathlib.Nat.{le-of-eq}
 use native.Mathlib.Numerals.{add-one}
@@ -21,6 +21,7 @@ use Rattle.meaning.specs.Sizes.{storeWrong, sizesWrong}
 use Rattle.meaning.specs.Code.{copiedAt, odd}
 use Rattle.meaning.specs.Walk.{Chain, refused, accepted, recordOf, goesOn, shares, follow, chainAt, WalkGives}
 use Rattle.meaning.proofs.Rows.{pass, stop}
+use Rattle.meaning.proofs.Tests.{some-map}
 use Rattle.meaning.proofs.Numbers.{full-table}
 use Rattle.chain.specs.Kept.{kept}
 
@@ -31,11 +32,6 @@ pub record Walking (m : List ℕ) (d : Drive) (start : ℕ) (table filled : List
   pub followed : follow 32 m d [] start ≡ follow (32 - n) m d (take n filled) at
   pub left-alone : drop n filled ≡ drop n table
   pub places : map (λ (r : Record). r .iopb) (take n filled) ≡ take n addresses
-
--- a test put to the addresses is put to the records
-some-map : (p : ℕ → Bool) (rs : List Record) → someOf p (map (λ (r : Record). r .iopb) rs) ≡ someOf (λ (r : Record). p (r .iopb)) rs
-some-map p [] = refl
-some-map p (r ∷ rs) = simp (some-map p rs)
 
 abbrev pub ending : ℕ → List Record → WalkedTable
 ending n t = record { walked = record { number = 0; commands = n }; table = t }
@@ -57,7 +53,7 @@ module _ (m : List ℕ) (d : Drive) (start : ℕ) (table filled : List Record) (
 
   shared : (addresses-share : Bool) → someOf (λ (a : ℕ). shares a at) (take n addresses) ≡ addresses-share
       → someOf (λ (r : Record). shares (r .iopb) at) (take n filled) ≡ addresses-share
-  shared b e = sym (some-map (λ (a : ℕ). shares a at) (take n filled)) ∙ ap (someOf (λ (a : ℕ). shares a at)) (w .places) ∙ e
+  shared b e = sym (some-map (λ (r : Record). r .iopb) (λ (a : ℕ). shares a at) (take n filled)) ∙ ap (someOf (λ (a : ℕ). shares a at)) (w .places) ∙ e
 
   pub shares-a-byte : n < 32 → allIn m at ≡ true → someOf (λ (a : ℕ). shares a at) (take n addresses) ≡ true → follow 32 m d [] start ≡ refused 4
   unfolding follow
@@ -68,14 +64,14 @@ module _ (m : List ℕ) (d : Drive) (start : ℕ) (table filled : List Record) (
   with-record r h = rw add-one (take-suc-set filled n r (omega (arith, w .filled-length)))
 
   chain-ends : n < 32 → allIn m at ≡ true → someOf (λ (a : ℕ). shares a at) (take n addresses) ≡ false → goesOn (copiedAt m at) ≡ false
-      → follow 32 m d [] start ≡ accepted (take (n + 1) (set filled n (recordOf (copiedAt m at) at d (length m))))
+      → follow 32 m d [] start ≡ accepted (take (n + 1) (set filled n (recordOf (copiedAt m at) at d m)))
   unfolding follow
   chain-ends h i e g =
       one-more h ∙ pass _ _ _ (ap not i) ∙ pass _ _ _ (shared false e) ∙ pass _ _ _ g ∙ ap accepted (sym (with-record _ h))
 
   chain-goes-on : n < 32 → allIn m at ≡ true → someOf (λ (a : ℕ). shares a at) (take n addresses) ≡ false → goesOn (copiedAt m at) ≡ true
       → follow 32 m d [] start
-      ≡ follow (32 - (n + 1)) m d (take (n + 1) (set filled n (recordOf (copiedAt m at) at d (length m)))) (copiedAt m at .next)
+      ≡ follow (32 - (n + 1)) m d (take (n + 1) (set filled n (recordOf (copiedAt m at) at d m))) (copiedAt m at .next)
   unfolding follow
   chain-goes-on h i e g =
       one-more h ∙ pass _ _ _ (ap not i) ∙ pass _ _ _ (shared false e) ∙ stop _ _ _ g
@@ -94,7 +90,7 @@ module _ (m : List ℕ) (d : Drive) (start : ℕ) (table filled : List Record) (
       ∙ sym (rw add-one (take-suc-set addresses n (r .iopb) (omega (arith, w .addresses-length))))
 
   walked-on : n < 32 → allIn m at ≡ true → someOf (λ (a : ℕ). shares a at) (take n addresses) ≡ false → goesOn (copiedAt m at) ≡ true
-      → Walking m d start table (set filled n (recordOf (copiedAt m at) at d (length m))) (set addresses n at) (n + 1) (copiedAt m at .next)
+      → Walking m d start table (set filled n (recordOf (copiedAt m at) at d m)) (set addresses n at) (n + 1) (copiedAt m at .next)
   unfolding recordOf
   walked-on h i e g =
       record {
@@ -103,7 +99,7 @@ module _ (m : List ℕ) (d : Drive) (start : ℕ) (table filled : List Record) (
         addresses-length = length-set addresses n at ∙ w .addresses-length;
         followed = chain-goes-on h i e g;
         left-alone = rest-alone _;
-        places = places-kept (recordOf (copiedAt m at) at d (length m)) h;
+        places = places-kept (recordOf (copiedAt m at) at d m) h;
       }
 
   -- what the walk replies where the chain ends with this record
@@ -115,10 +111,10 @@ module _ (m : List ℕ) (d : Drive) (start : ℕ) (table filled : List Record) (
       rw long (ap (λ (t : List Record). ending (n + 1) t) whole)
 
   -- a turn has copied c and stored r
-  module _ (c : Copied) (r : Record) (is-copied : c ≡ copiedAt m at) (is-record : r ≡ recordOf c at d (length m)) (h : n < 32)
+  module _ (c : Copied) (r : Record) (is-copied : c ≡ copiedAt m at) (is-record : r ≡ recordOf c at d m) (h : n < 32)
       (i : allIn m at ≡ true) (e : someOf (λ (a : ℕ). shares a at) (take n addresses) ≡ false) where
-    stored : r ≡ recordOf (copiedAt m at) at d (length m)
-    stored = is-record ∙ ap (λ (x : Copied). recordOf x at d (length m)) is-copied
+    stored : r ≡ recordOf (copiedAt m at) at d m
+    stored = is-record ∙ ap (λ (x : Copied). recordOf x at d m) is-copied
 
     pub next-turn : goesOn c ≡ true → Walking m d start table (set filled n r) (set addresses n at) (n + 1) (c .next)
     next-turn g =

@@ -1,3 +1,4 @@
 pub mod Follow
 pub mod Past
 pub mod Alone
+pub mod Coding

@@ -1,14 +1,18 @@
 // What the walk copies from an IOPB, and the code that its command will get: first what every command is asked, then what only a
-// transfer is asked. The first row that applies gives the code.
+// transfer is asked, then what its data is asked. The first row that applies gives the code.
+use crate::links;
 use meaning::Copied;
 use meaning::Drive;
+use meaning::Link;
 ghost use mathlib.Core.Path.{_≡_};
 ghost use Prim.Native.Nat.{_+_, _*_};
 ghost use mathlib.Core.Bool.{not, _&&_, _||_};
 ghost use lib.Dec.{ltb, eqb};
 ghost use Rattle.meaning.specs.First.{firstOf};
 ghost use Rattle.meaning.specs.Sectors.{sectorBytes, maximumOn, sectorCount};
-ghost use Rattle.meaning.specs.Code.{copiedAt, codeOf, transferRows, chained, odd, gathers, commandIn, read, write, firstSector};
+ghost use lib.ListN.{take};
+ghost use Rattle.meaning.specs.Code.{copiedAt, earlyCode, linkCount, transferRows, chained, odd, gathers, commandIn, nop, read, write, firstSector};
+ghost use Rattle.chain.specs.Coding.{toRead, plainCode, listCode, lateCode};
 
 // The fields of an IOPB that the walk keeps.
 fn fields_of(memory: &[u8], at: u32) -> Copied
@@ -18,6 +22,7 @@ fn fields_of(memory: &[u8], at: u32) -> Copied
         byte0: iopb::byte0(memory, at),
         subfunction: iopb::subfunction(memory, at),
         unit: iopb::unit(memory, at),
+        byte6: iopb::byte6(memory, at),
         head: iopb::head(memory, at),
         sector: iopb::sector(memory, at),
         count: iopb::count(memory, at),
@@ -50,14 +55,21 @@ pub(crate) fn misaligned(c: Copied) -> bool
     c.next % 2 == 1
 }
 
-// A command above 2, or SGM set, or byte 4 not zero.
+// SGM set: a transfer has a link list.
+pub(crate) fn has_list(c: Copied) -> bool
+    ensures { λ r. ⌜ r ≡ gathers c ⌝ }
+{
+    c.byte0 / 16 % 2 == 1
+}
+
+// A command above 2, or SGM with No Operation, or byte 4 not zero.
 fn unimplemented(c: Copied) -> bool
-    ensures { λ r. ⌜ r ≡ (ltb read (commandIn (c .byte0)) || gathers c || not (eqb (c .subfunction) 0)) ⌝ }
+    ensures { λ r. ⌜ r ≡ (ltb read (commandIn (c .byte0)) || gathers c && eqb (commandIn (c .byte0)) nop || not (eqb (c .subfunction) 0)) ⌝ }
 {
     if 2 < c.byte0 % 16 {
         return true;
     }
-    if c.byte0 / 16 % 2 == 1 {
+    if has_list(c) & (c.byte0 % 16 == 0) {
         return true;
     }
     c.subfunction != 0
@@ -99,9 +111,9 @@ fn past_memory(c: Copied, memory: u64) -> bool
     memory < end
 }
 
-// The code of a transfer: what only a transfer is asked. memory is its length.
-fn transfer_code(c: Copied, d: Drive, memory: u64) -> u8
-    ensures { λ r. ⌜ r ≡ firstOf (transferRows c d memory) 0 ⌝ }
+// The code of a transfer, before its data is looked at.
+fn transfer_code(c: Copied, d: Drive) -> u8
+    ensures { λ r. ⌜ r ≡ firstOf (transferRows c d) 0 ⌝ }
 {
     if c.unit != 0 {
         return 0x42;
@@ -124,15 +136,12 @@ fn transfer_code(c: Copied, d: Drive, memory: u64) -> u8
     if forbidden(c, d) {
         return 0x90;
     }
-    if past_memory(c, memory) {
-        return 0x4B;
-    }
     0x00
 }
 
-// The code that a command will get: what every command is asked, and then, of a transfer, the rest. memory is its length.
-pub fn code(c: Copied, d: Drive, memory: u64) -> u8
-    ensures { λ r. ⌜ r ≡ codeOf c d memory ⌝ }
+// The code of a command by the rows that do not look at its data: what every command is asked, and then what a transfer is asked.
+pub(crate) fn early_code(c: Copied, d: Drive) -> u8
+    ensures { λ r. ⌜ r ≡ earlyCode c d ⌝ }
 {
     if misaligned(c) {
         return 0x1E;
@@ -143,5 +152,77 @@ pub fn code(c: Copied, d: Drive, memory: u64) -> u8
     if c.byte0 % 16 == 0 {
         return 0x00;
     }
-    transfer_code(c, d, memory)
+    transfer_code(c, d)
+}
+
+// How many elements the link list has: bits 7-3 of byte 6, where 0 means 32.
+fn link_count(c: Copied) -> u32
+    ensures { λ n. ⌜ n ≡ linkCount c ⌝ }
+{
+    let n = c.byte6 / 8 % 32;
+    if n == 0 { links::MOST_LINKS } else { n as u32 }
+}
+
+// How many elements the walk reads of a command with this code so far: none where it has a code already, or no list, or one that is not
+// all in a memory of so many bytes.
+pub(crate) fn links_to_read(c: Copied, early: u8, memory: u64) -> u32
+    ensures { λ n. ⌜ n ≡ toRead c early memory ⌝ }
+{
+    if early != 0 {
+        return 0;
+    }
+    if !has_list(c) {
+        return 0;
+    }
+    let n = link_count(c);
+    if memory < c.address as u64 + links::LINK_BYTES as u64 * n as u64 {
+        return 0;
+    }
+    n
+}
+
+// The code of a command without a list that was read, by its data: a No Operation has none; a list that was not read lies outside memory.
+fn plain_code(c: Copied, memory: u64) -> u8
+    ensures { λ r. ⌜ r ≡ plainCode c memory ⌝ }
+{
+    if c.byte0 % 16 == 0 {
+        return 0x00;
+    }
+    if has_list(c) {
+        return 0x4B;
+    }
+    if past_memory(c, memory) {
+        return 0x4B;
+    }
+    0x00
+}
+
+// The code of a transfer by the first n ranges of its list, which was read.
+fn list_code(count: u16, memory: u64, list: [Link; 32], n: u32) -> u8
+    ensures { λ r. ⌜ r ≡ listCode count memory (take n list) ⌝ }
+{
+    if links::bytes_in(list, n) != drive::SECTOR_BYTES as u32 * count as u32 {
+        return 0x1C;
+    }
+    if links::some_odd(list, n) {
+        return 0x1F;
+    }
+    if links::some_outside(list, n, memory) {
+        return 0x4B;
+    }
+    0x00
+}
+
+// The code that a command will get: the early one, and then what its data is asked. The first n elements of the list are those that the
+// walk read; memory is its length.
+pub(crate) fn code(c: Copied, early: u8, memory: u64, list: [Link; 32], n: u32) -> u8
+    ensures { λ r. ⌜ r ≡ lateCode c early memory (take n list) n ⌝ }
+{
+    if early != 0 {
+        return early;
+    }
+    if n == 0 {
+        return plain_code(c, memory);
+    }
+    list_code(c.count, memory, list, n)
 }

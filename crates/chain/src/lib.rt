@@ -1,6 +1,7 @@
-// The chain of commands in host memory: the sizes that all calls test, what the walk copies from an IOPB and the code that the
-// command will get, and the walk itself, which fills the table of accepted commands by value.
+// The chain of commands in host memory: the sizes that all calls test, what the walk copies from an IOPB and its link list, the code that
+// the command will get, and the walk itself, which fills the table of accepted commands by value.
 pub mod code;
+pub mod links;
 pub mod ranges;
 pub mod sizes;
 pub mod walk;

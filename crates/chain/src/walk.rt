@@ -1,5 +1,6 @@
 // The walk: from a first address along the chain, each IOPB copied into the table before anything moves.
 use crate::code;
+use crate::links;
 use crate::ranges;
 use crate::sizes;
 use meaning::Copied;
@@ -20,18 +21,24 @@ ghost use Rattle.chain.specs.Past.{AllEnd};
 // The most commands that a chain may have.
 pub const MOST_COMMANDS: usize = 32;
 
-// A command's record, with no step taken yet.
-fn record_of(c: Copied, at: u32, d: Drive, memory: u64) -> Record
-    ensures { λ r. ⌜ r ≡ recordOf c at d memory ⌝ }
+// A command's record, with no step taken yet. Its list is read only where no code is given before.
+fn record_of(memory: &[u8], c: Copied, at: u32, d: Drive) -> Record
+    ensures { λ r. ⌜ r ≡ recordOf c at d (now (memory .entry)) ⌝ }
 {
+    let early = code::early_code(c, d);
+    let length = memory.len() as u64;
+    let ranges = code::links_to_read(c, early, length);
+    let list = links::links_at(memory, c.address as usize, ranges as usize);
     Record {
         iopb: at,
         address: c.address,
         sector: code::first_sector(c, d),
         taken: 0,
+        ranges,
         count: c.count,
         byte0: c.byte0,
-        code: code::code(c, d, memory),
+        code: code::code(c, early, length, list, ranges),
+        list,
     }
 }
 
@@ -101,7 +108,7 @@ fn follow_chain(memory: &[u8], d: Drive, start: u32, table: [Record; 32]) -> Wal
             return refused(4, table);
         }
         let c = code::copied(memory, at);
-        filled[n] = record_of(c, at, d, memory.len() as u64);
+        filled[n] = record_of(memory, c, at, d);
         addresses[n] = at;
         n += 1;
         if !goes_on(c) {

@@ -1,20 +1,52 @@
--- A command's footprint, and when two of them meet, as the code tests it: each pair of ranges once, where one of the two commands
--- writes there. proofs/Touching proves that this is the rules' conflict.
-use Prim.Native.Nat.{ℕ, _*_}
+-- A command's footprint, and when two of them meet, as the code tests it first: of its data the hull alone. proofs/Touching proves that
+-- commands whose footprints do not meet do not conflict.
+use Prim.Native.Nat.{ℕ, _+_, max, min}
 use mathlib.Core.Bool.{Bool, false, _&&_, _||_, cond}
+use mathlib.Core.List.{List, [], _∷_}
+use lib.Dec.{ltb}
 use Rattle.meaning.specs.declared.Record.{Record}
-use Rattle.meaning.specs.Sectors.{sectorBytes}
-use Rattle.meaning.specs.Ranges.{crosses}
+use Rattle.meaning.specs.Ranges.{Range, crosses, meet}
 use Rattle.meaning.specs.Command.{reads, writes, transfers, stepsOf}
+use Rattle.meaning.specs.Touch.{dataBytes}
+use Rattle.command.specs.declared.touch.Hull.{Hull}
 use Rattle.command.specs.declared.touch.Footprint.{Footprint}
 
--- a footprint of nothing
+-- ---- hulls
+
+-- the hull of nothing begins past all addresses
+abbrev pub noHull : Hull
+noHull = record { low = 4_294_967_296; high = 0 }
+
+-- a hull with one range more within it
+abbrev pub hullWith : Hull → Range → Hull
+hullWith h x = record { low = min (h .low) (x .from); high = max (h .high) (x .from + x .many) }
+
+-- with some ranges more
+abbrev pub hullFrom : Hull → List Range → Hull
+hullFrom h [] = h
+hullFrom h (x ∷ xs) = hullFrom (hullWith h x) xs
+
+abbrev pub hullOf : List Range → Hull
+hullOf xs = hullFrom noHull xs
+
+-- ---- footprints
+
+-- how many sectors a command moves, and the ranges of what it moves
+abbrev pub movedBy : Record → ℕ
+movedBy r = cond (transfers r) (r .count) 0
+
+abbrev pub movedData : Record → List Range
+movedData r = cond (transfers r) (dataBytes r) []
+
+abbrev pub dataHull : Record → Hull
+dataHull r = hullOf (movedData r)
+
+-- a footprint of nothing, all zeros
 abbrev pub noFootprint : Footprint
 noFootprint =
     record {
+      hull = record { low = 0; high = 0 };
       status = 0;
-      address = 0;
-      bytes = 0;
       sector = 0;
       sectors = 0;
       steps = 0;
@@ -22,17 +54,12 @@ noFootprint =
       writes = false;
     }
 
--- how many sectors a command moves
-abbrev pub movedBy : Record → ℕ
-movedBy r = cond (transfers r) (r .count) 0
-
 unfoldable pub footprintOf : Record → Footprint
 unfolding stepsOf
 footprintOf r =
     record {
+      hull = dataHull r;
       status = r .iopb;
-      address = r .address;
-      bytes = sectorBytes * movedBy r;
       sector = r .sector;
       sectors = movedBy r;
       steps = stepsOf r;
@@ -40,15 +67,31 @@ footprintOf r =
       writes = writes r;
     }
 
+-- ---- footprints that meet
+
+abbrev pub hullsMeet : Hull → Hull → Bool
+hullsMeet g h = ltb (max (g .low) (h .low)) (min (g .high) (h .high))
+
+-- the status bytes of the one and the data of the other
+abbrev pub statusMeets : Footprint → Footprint → Bool
+statusMeets f g = ltb (max (f .status) (g .hull .low)) (min (f .status + 4) (g .hull .high))
+
 -- data in common, where one of the two reads; sectors in common, where one of them writes
 abbrev pub dataMeets : Footprint → Footprint → Bool
-dataMeets f g = (f .reads || g .reads) && crosses (f .address) (f .bytes) (g .address) (g .bytes)
+dataMeets f g = (f .reads || g .reads) && hullsMeet (f .hull) (g .hull)
 
 abbrev pub sectorsMeet : Footprint → Footprint → Bool
 sectorsMeet f g = (f .writes || g .writes) && crosses (f .sector) (f .sectors) (g .sector) (g .sectors)
 
--- or the status bytes of one in common with the status bytes or the data of the other
 unfoldable pub footprintsMeet : Footprint → Footprint → Bool
 footprintsMeet f g =
-    crosses (f .status) 4 (g .status) 4
-    || (crosses (f .status) 4 (g .address) (g .bytes) || (crosses (f .address) (f .bytes) (g .status) 4 || (dataMeets f g || sectorsMeet f g)))
+    crosses (f .status) 4 (g .status) 4 || (statusMeets f g || (statusMeets g f || (dataMeets f g || sectorsMeet f g)))
+
+-- ---- the ranges themselves
+
+-- data in common, where one of two commands reads; sectors in common, where one of them writes
+abbrev pub dataConflicts : Record → Record → Bool
+dataConflicts r s = (reads r || reads s) && meet (movedData r) (movedData s)
+
+abbrev pub sectorsConflict : Record → Record → Bool
+sectorsConflict r s = (writes r || writes s) && crosses (r .sector) (movedBy r) (s .sector) (movedBy s)

@@ -1,24 +1,36 @@
-// Whether two commands conflict. What a command touches does not change with its steps (Touch 5), so it can be worked out once, as its
-// footprint: ranges of memory and of sectors, which are empty where it touches none. Two footprints are tested pair by pair of ranges,
-// each where one of the two commands writes there.
+// Whether two commands conflict. What a command touches does not change with its steps (Touch 5), so what can be said of it in few numbers is
+// worked out once, as its footprint: its status bytes, its sectors, and the hull of its data, from its first byte in memory to its last.
+// Commands whose footprints do not meet have no conflict; where they meet, the ranges themselves are tested, pair by pair.
+use chain::links;
 use chain::ranges;
+use meaning::Link;
 use meaning::Record;
 ghost use mathlib.Core.Path.{_≡_};
-ghost use mathlib.Core.Bool.{cond};
-ghost use Rattle.meaning.specs.Command.{transfers};
+ghost use Prim.Native.Nat.{_*_};
+ghost use mathlib.Core.List.{[], map};
+ghost use lib.ListN.{take};
+ghost use Rattle.meaning.specs.Each.{someOf};
+ghost use Rattle.meaning.specs.Sectors.{sectorBytes};
+ghost use Rattle.meaning.specs.Ranges.{bytes, overlap, meet};
+ghost use Rattle.meaning.specs.Links.{rangeOf};
 ghost use Rattle.meaning.specs.Touch as touch;
-ghost use Rattle.command.specs.Footprints.{noFootprint, footprintOf, dataMeets, sectorsMeet, footprintsMeet};
+ghost use Rattle.command.specs.Footprints.{hullWith, hullOf, movedBy, movedData, dataHull, noFootprint, footprintOf, hullsMeet, statusMeets, dataMeets, sectorsMeet, footprintsMeet, dataConflicts, sectorsConflict};
 
 // A close writes the first four bytes of its IOPB (Step 5).
 const STATUS_BYTES: u32 = 4;
 
+// From the first byte of some ranges to the first one past all of them.
+pub struct Hull {
+    pub low: u64,
+    pub high: u64,
+}
+
 // What a command touches from its first step to its close, and how many steps it has.
 pub struct Footprint {
+    // of its data
+    pub hull: Hull,
     // where its status bytes begin
     pub status: u32,
-    // its data: where it begins, and how many bytes
-    pub address: u32,
-    pub bytes: u32,
     // its sectors: the first one, and how many
     pub sector: u32,
     pub sectors: u32,
@@ -28,14 +40,23 @@ pub struct Footprint {
     pub writes: bool,
 }
 
-// A footprint of nothing.
+// The hull of nothing: it begins past all addresses.
+fn no_hull() -> Hull
+    ensures { λ h. ⌜ h ≡ hullOf [] ⌝ }
+{
+    Hull {
+        low: 4_294_967_296,
+        high: 0,
+    }
+}
+
+// A footprint of nothing, all zeros.
 pub fn no_footprint() -> Footprint
     ensures { λ f. ⌜ f ≡ noFootprint ⌝ }
 {
     Footprint {
+        hull: Hull { low: 0, high: 0 },
         status: 0,
-        address: 0,
-        bytes: 0,
         sector: 0,
         sectors: 0,
         steps: 0,
@@ -44,9 +65,61 @@ pub fn no_footprint() -> Footprint
     }
 }
 
+// A hull with n bytes from a on within it too.
+fn hull_with(h: Hull, a: u32, n: u32) -> Hull
+    ensures { λ g. ⌜ g ≡ hullWith h (bytes a n) ⌝ }
+{
+    Hull {
+        low: ranges::earlier(h.low, a as u64),
+        high: ranges::later(h.high, a as u64 + n as u64),
+    }
+}
+
+// A hull with the range of an element within it too.
+fn hull_with_link(h: Hull, x: Link) -> Hull
+    ensures { λ g. ⌜ g ≡ hullWith h (rangeOf x) ⌝ }
+{
+    hull_with(h, x.address, x.length as u32)
+}
+
+// The hull of the first n ranges of a list.
+fn list_hull(list: [Link; 32], n: u32) -> Hull
+    ensures { λ h. ⌜ h ≡ hullOf (map rangeOf (take n list)) ⌝ }
+{
+    let last = links::held(n);
+    let mut h = no_hull();
+    let mut k = 0;
+    while k < last {
+        h = hull_with_link(h, list[k]);
+        k += 1;
+    }
+    h
+}
+
+// How many bytes a command without a list moves.
+fn plain_bytes(r: Record) -> u32
+    ensures { λ n. ⌜ n ≡ sectorBytes * r .count ⌝ }
+{
+    drive::SECTOR_BYTES as u32 * r.count as u32
+}
+
+// The hull of a command's data; of nothing where it moves none.
+fn data_hull(r: Record) -> Hull
+    ensures { λ h. ⌜ h ≡ dataHull r ⌝ }
+{
+    if !crate::transfers(r) {
+        return no_hull();
+    }
+    if r.ranges == 0 {
+        return hull_with(no_hull(), r.address, plain_bytes(r));
+    }
+    let list = r.list;
+    list_hull(list, r.ranges)
+}
+
 // How many sectors a command moves: a transfer with code 00 its count, every other none.
 fn moved(r: Record) -> u32
-    ensures { λ n. ⌜ n ≡ cond (transfers r) (r .count) 0 ⌝ }
+    ensures { λ n. ⌜ n ≡ movedBy r ⌝ }
 {
     if crate::transfers(r) {
         r.count as u32
@@ -59,27 +132,34 @@ fn moved(r: Record) -> u32
 pub fn footprint_of(r: Record) -> Footprint
     ensures { λ f. ⌜ f ≡ footprintOf r ⌝ }
 {
-    let sectors = moved(r);
     Footprint {
+        hull: data_hull(r),
         status: r.iopb,
-        address: r.address,
-        bytes: drive::SECTOR_BYTES as u32 * sectors,
         sector: r.sector,
-        sectors,
+        sectors: moved(r),
         steps: crate::steps_of(r),
         reads: crate::reads(r),
         writes: crate::writes(r),
     }
 }
 
-// The data of both has a byte in common, and one of them writes it: it reads sectors.
-fn data_meets(f: Footprint, g: Footprint) -> bool
-    ensures { λ b. ⌜ b ≡ dataMeets f g ⌝ }
+// The hulls have a byte in common.
+fn hulls_meet(f: Hull, g: Hull) -> bool
+    ensures { λ b. ⌜ b ≡ hullsMeet f g ⌝ }
 {
-    if f.reads | g.reads {
-        return ranges::crosses(f.address, f.bytes, g.address, g.bytes);
-    }
-    false
+    ranges::common(f.low, f.high, g.low, g.high)
+}
+
+// The status bytes of the one have a byte in common with the hull of the other.
+fn status_meets(f: Footprint, g: Footprint) -> bool
+    ensures { λ b. ⌜ b ≡ statusMeets f g ⌝ }
+{
+    ranges::common(
+        f.status as u64,
+        f.status as u64 + STATUS_BYTES as u64,
+        g.hull.low,
+        g.hull.high,
+    )
 }
 
 // The sectors of both have one in common, and one of them writes it.
@@ -92,17 +172,27 @@ fn sectors_meet(f: Footprint, g: Footprint) -> bool
     false
 }
 
-// Two commands with these footprints conflict: a close writes status bytes, a Read writes its data, a Write its sectors.
+// The hulls of both have a byte in common, and one of them writes data: it reads sectors.
+fn data_meets(f: Footprint, g: Footprint) -> bool
+    ensures { λ b. ⌜ b ≡ dataMeets f g ⌝ }
+{
+    if f.reads | g.reads {
+        return hulls_meet(f.hull, g.hull);
+    }
+    false
+}
+
+// Two commands with these footprints may conflict: a close writes status bytes, a Read writes its data, a Write its sectors.
 pub fn footprints_meet(f: Footprint, g: Footprint) -> bool
     ensures { λ b. ⌜ b ≡ footprintsMeet f g ⌝ }
 {
     if ranges::crosses(f.status, STATUS_BYTES, g.status, STATUS_BYTES) {
         return true;
     }
-    if ranges::crosses(f.status, STATUS_BYTES, g.address, g.bytes) {
+    if status_meets(f, g) {
         return true;
     }
-    if ranges::crosses(f.address, f.bytes, g.status, STATUS_BYTES) {
+    if status_meets(g, f) {
         return true;
     }
     if data_meets(f, g) {
@@ -111,9 +201,123 @@ pub fn footprints_meet(f: Footprint, g: Footprint) -> bool
     sectors_meet(f, g)
 }
 
-// Two commands conflict: one of them writes a byte or sector that the other reads or writes (Touch 4).
+// n bytes from a on have one in common with the range of an element.
+fn link_meets(x: Link, a: u32, n: u32) -> bool
+    ensures { λ b. ⌜ b ≡ overlap (bytes a n) (rangeOf x) ⌝ }
+{
+    ranges::crosses(a, n, x.address, x.length as u32)
+}
+
+// n bytes from a on have one in common with some of the first m ranges of a list.
+fn list_meets(list: [Link; 32], m: u32, a: u32, n: u32) -> bool
+    ensures { λ b. ⌜ b ≡ someOf (λ x. overlap (bytes a n) (rangeOf x)) (take m list) ⌝ }
+{
+    let last = links::held(m);
+    let mut k = 0;
+    while k < last {
+        if link_meets(list[k], a, n) {
+            return true;
+        }
+        k += 1;
+    }
+    false
+}
+
+// n bytes from a on have one in common with the data of a command.
+fn meets_data(r: Record, a: u32, n: u32) -> bool
+    ensures { λ b. ⌜ b ≡ someOf (overlap (bytes a n)) (movedData r) ⌝ }
+{
+    if !crate::transfers(r) {
+        return false;
+    }
+    if r.ranges == 0 {
+        return ranges::crosses(a, n, r.address, plain_bytes(r));
+    }
+    let list = r.list;
+    list_meets(list, r.ranges, a, n)
+}
+
+// The range of an element has a byte in common with the data of a command.
+fn link_meets_data(r: Record, x: Link) -> bool
+    ensures { λ b. ⌜ b ≡ someOf (overlap (rangeOf x)) (movedData r) ⌝ }
+{
+    meets_data(r, x.address, x.length as u32)
+}
+
+// Some of the first n ranges of a list have a byte in common with the data of a command.
+fn list_meets_data(list: [Link; 32], n: u32, r: Record) -> bool
+    ensures { λ b. ⌜ b ≡ someOf (λ x. someOf (overlap (rangeOf x)) (movedData r)) (take n list) ⌝ }
+{
+    let last = links::held(n);
+    let mut k = 0;
+    while k < last {
+        if link_meets_data(r, list[k]) {
+            return true;
+        }
+        k += 1;
+    }
+    false
+}
+
+// The data of two commands has a byte in common.
+fn data_shared(r: Record, s: Record) -> bool
+    ensures { λ b. ⌜ b ≡ meet (movedData r) (movedData s) ⌝ }
+{
+    if !crate::transfers(r) {
+        return false;
+    }
+    if r.ranges == 0 {
+        return meets_data(s, r.address, plain_bytes(r));
+    }
+    let list = r.list;
+    list_meets_data(list, r.ranges, s)
+}
+
+// Their data has a byte in common, and one of them writes it: it reads sectors.
+fn data_conflicts(r: Record, s: Record) -> bool
+    ensures { λ b. ⌜ b ≡ dataConflicts r s ⌝ }
+{
+    if crate::reads(r) | crate::reads(s) {
+        return data_shared(r, s);
+    }
+    false
+}
+
+// Their sectors have one in common, and one of them writes it.
+fn sectors_conflict(r: Record, s: Record) -> bool
+    ensures { λ b. ⌜ b ≡ sectorsConflict r s ⌝ }
+{
+    if crate::writes(r) | crate::writes(s) {
+        return ranges::crosses(r.sector, moved(r), s.sector, moved(s));
+    }
+    false
+}
+
+// Two commands conflict, by their ranges pair by pair.
+pub fn ranges_conflict(r: Record, s: Record) -> bool
+    ensures { λ b. ⌜ b ≡ touch.conflict r s ⌝ }
+{
+    if ranges::crosses(r.iopb, STATUS_BYTES, s.iopb, STATUS_BYTES) {
+        return true;
+    }
+    if meets_data(s, r.iopb, STATUS_BYTES) {
+        return true;
+    }
+    if meets_data(r, s.iopb, STATUS_BYTES) {
+        return true;
+    }
+    if data_conflicts(r, s) {
+        return true;
+    }
+    sectors_conflict(r, s)
+}
+
+// Two commands conflict: one of them writes a byte or sector that the other reads or writes (Touch 4). Their footprints are tested first.
 pub fn conflict(r: Record, s: Record) -> bool
     ensures { λ b. ⌜ b ≡ touch.conflict r s ⌝ }
 {
-    footprints_meet(footprint_of(r), footprint_of(s))
+    if footprints_meet(footprint_of(r), footprint_of(s)) {
+        return ranges_conflict(r, s);
+    }
+    false
 }

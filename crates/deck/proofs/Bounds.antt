@@ -1,24 +1,23 @@
--- How many steps a deck's chain can have: a transfer lies within 4,096 bytes, so it has at most 8 sectors, and 32 commands have at
--- most 256 steps.
+-- How many steps a deck's chain can have: the bench's drive has 32 sectors, so a transfer has at most as many, and 32 commands have at
+-- most 1,024 steps.
 use mathlib.Core.Path.{_≡_, refl, sym, ap, _∙_}
-use Prim.Native.Nat.{ℕ, _+_, _*_, _≤_}
+use Prim.Native.Nat.{ℕ, _*_, _≤_}
 use native.Mathlib.Omega.{arith}
 use mathlib.Core.Bool.{Bool, true, false, cond}
-use mathlib.Core.List.{List, [], _∷_, _++_, foldl}
-use lib.ListN.{length, take, drop, replicate, length-replicate}
-use lib.Seq.{length-sets, take-append-seam, take-length}
+use mathlib.Core.List.{List, [], _∷_}
+use lib.ListN.{length, take, drop}
+use lib.Seq.{take-append-seam, take-length}
 use lib.Dec.{ltb}
 use Rattle.meaning.specs.declared.Drive.{Drive}
 use Rattle.meaning.specs.declared.Record.{Record}
-use Rattle.meaning.specs.Each.{someOf, sumOf, upTo}
-use Rattle.meaning.specs.Fields.{iopbBytes}
-use Rattle.meaning.specs.Store.{memory}
+use Rattle.meaning.specs.Each.{someOf, sumOf}
+use Rattle.meaning.specs.Sectors.{perCylinder, sectorCount}
 use Rattle.meaning.specs.State.{State, mostCommands}
 use Rattle.meaning.specs.Walk.{Chain, refused, accepted, filled, chainAt}
 use Rattle.meaning.specs.Command.{transfers, stepsOf}
 use Rattle.meaning.specs.Pick.{badRecord, spoiled}
 use Rattle.meaning.specs.Run.{chainSteps, written}
-use Rattle.meaning.specs.Deck.{recordBytes, recordCount, memoryBytes, layRecord, isDeck, benchMemory, benchDrive}
+use Rattle.meaning.specs.Deck.{isDeck, benchDrive}
 use Rattle.meaning.specs.Bench.{ran, runChain, benchState, outcomeOf}
 use Rattle.meaning.proofs.Rows.{or-false}
 use Rattle.meaning.proofs.Conditions.{good}
@@ -30,30 +29,24 @@ use Rattle.deck.specs.declared.Report.{Report}
 use Rattle.deck.specs.Meant.{meant, stepsIn, Reports}
 use Rattle.deck.proofs.Outcomes.{no-deck, deck-outcome}
 
--- ---- the bench's memory is 4,096 bytes, whatever is laid in it
+-- ---- the bench's drive has 32 sectors
 
-laid-length : (b : List ℕ) (ks m : List ℕ) → length (foldl (layRecord b) m ks) ≡ length m
-unfolding layRecord
-laid-length b [] m = refl
-laid-length b (k ∷ ks) m =
-    laid-length b ks (layRecord b m k) ∙ length-sets m (recordBytes * k) (take iopbBytes (drop (recordBytes * k) b))
+drive-sectors : (b : List ℕ) → sectorCount (benchDrive b) ≡ 32
+unfolding sectorCount perCylinder benchDrive
+drive-sectors b = refl
 
-memory-length : (b : List ℕ) → length (benchMemory b) ≡ memoryBytes
-unfolding benchMemory
-memory-length b = laid-length b (upTo (recordCount b)) (replicate memoryBytes 0) ∙ length-replicate {A = ℕ} memoryBytes 0
+-- ---- the steps of a chain on such a drive
 
--- ---- the steps of a chain in so much memory
-
-module _ (d : Drive) (s : State) (long : length (s .store memory) ≡ memoryBytes) where
-  command-steps : (r : Record) → badRecord d (s .store) r ≡ false → stepsOf r ≤ 8
+module _ (d : Drive) (s : State) (few : sectorCount d ≡ 32) where
+  command-steps : (r : Record) → badRecord d (s .store) r ≡ false → stepsOf r ≤ 32
   unfolding stepsOf
   command-steps r sound = go (transfers r) refl
     where
-      go : (b : Bool) → transfers r ≡ b → cond b (r .count) 1 ≤ 8
-      go true t = let h = good d (s .store) r sound .bytes-in t in omega arith
+      go : (b : Bool) → transfers r ≡ b → cond b (r .count) 1 ≤ 32
+      go true t = let h = good d (s .store) r sound .sectors-in t in omega arith
       go false t = omega arith
 
-  all-steps : (rs : List Record) → someOf (badRecord d (s .store)) rs ≡ false → sumOf stepsOf rs ≤ 8 * length rs
+  all-steps : (rs : List Record) → someOf (badRecord d (s .store)) rs ≡ false → sumOf stepsOf rs ≤ 32 * length rs
   all-steps [] e = omega arith
   all-steps (r ∷ rs) e =
       let parts = or-false (badRecord d (s .store) r) (someOf (badRecord d (s .store)) rs) e in
@@ -68,30 +61,30 @@ module _ (d : Drive) (s : State) (long : length (s .store memory) ≡ memoryByte
       ap (someOf (badRecord d (s .store))) (sym (take-append-seam rs (drop (length rs) (s .table))))
       ∙ or-false (ltb mostCommands (length rs)) (someOf (badRecord d (s .store)) (take (length rs) t)) sound .1
 
-  chain-steps : (rs : List Record) → chainAt d 0 s ≡ accepted rs → chainSteps rs (length rs) ≤ 256
+  chain-steps : (rs : List Record) → chainAt d 0 s ≡ accepted rs → chainSteps rs (length rs) ≤ 1_024
   unfolding chainSteps
   chain-steps rs e =
       omega (arith, chain-most d 0 s rs e, all-steps rs (none-bad-in rs e), ap (sumOf stepsOf) (take-length rs))
 
-  outcome-steps : (c : Chain) (cs : List ℕ) (n : ℕ) → chainAt d 0 s ≡ c → runChain d (s .store) c ≡ ran cs n → n ≤ 256
+  outcome-steps : (c : Chain) (cs : List ℕ) (n : ℕ) → chainAt d 0 s ≡ c → runChain d (s .store) c ≡ ran cs n → n ≤ 1_024
   unfolding runChain
   outcome-steps (refused k) cs n e told = let z : _≡_ {A = ℕ} 0 1 = cc in omega arith
   outcome-steps (accepted rs) cs n e told =
       let steps : written d (chainSteps rs (length rs)) rs (s .store) .steps ≡ n = cc in
       omega (arith, steps, smaller d (chainSteps rs (length rs)) rs (s .store), chain-steps rs e)
 
-deck-steps : (b cs : List ℕ) (n : ℕ) → outcomeOf b ≡ ran cs n → n ≤ 256
+deck-steps : (b cs : List ℕ) (n : ℕ) → outcomeOf b ≡ ran cs n → n ≤ 1_024
 deck-steps b cs n e = go (isDeck b) refl
   where
-    go : (t : Bool) → isDeck b ≡ t → n ≤ 256
-    go true t = outcome-steps (benchDrive b) (benchState b) (memory-length b) _ cs n refl (sym (deck-outcome b t) ∙ e)
+    go : (t : Bool) → isDeck b ≡ t → n ≤ 1_024
+    go true t = outcome-steps (benchDrive b) (benchState b) (drive-sectors b) _ cs n refl (sym (deck-outcome b t) ∙ e)
     go false t = let no = no-deck b t in let z : _≡_ {A = ℕ} 0 1 = cc in omega arith
 
-pub report-steps : (b : List ℕ) (x : Report) → Reports (outcomeOf b) x → stepsIn (x .outcome) ≤ 256
+pub report-steps : (b : List ℕ) (x : Report) → Reports (outcomeOf b) x → stepsIn (x .outcome) ≤ 1_024
 unfolding meant
 report-steps b x told = go (x .outcome) (told .means)
   where
-    go : (o : Outcome) → meant o (x .codes) ≡ outcomeOf b → stepsIn o ≤ 256
+    go : (o : Outcome) → meant o (x .codes) ≡ outcomeOf b → stepsIn o ≤ 1_024
     go NoDeck e = omega arith
     go (NoChain n) e = omega arith
     go (Ran commands steps) e = deck-steps b _ steps (sym e)

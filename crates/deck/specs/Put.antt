@@ -13,10 +13,10 @@ pub record Put (l : List ℕ) (a : ℕ) (bytes : List ℕ) (r : ℕ) (l′ : Lis
   pub front : take r l′ ≡ take a l ++ bytes
   pub rest : drop r l′ ≡ drop r l
 
--- The most that is ever printed: the lines of 32 commands, 10 of 5 bytes and 22 of 6, and `steps 256` with its newline. A transfer
--- lies within 4,096 bytes, so a command has at most 8 steps.
+-- The most that is ever printed: the lines of 32 commands, 10 of 5 bytes and 22 of 6, and `steps 1024` with its newline. The
+-- bench's drive has 32 sectors, so a command has at most 32 steps.
 abbrev pub mostBytes : ℕ
-mostBytes = 192
+mostBytes = 193
 
 -- The whole of printing a deck b: where l is too short nothing, otherwise its lines at the start of l.
 unfoldable pub PrintGives : List ℕ → List ℕ → ℕ → List ℕ → Type 0

@@ -10,7 +10,7 @@ ghost use Rattle.deck.specs.Meant.{meant, commandsIn, stepsIn};
 ghost use Rattle.deck.specs.Put.{Put, PrintGives, mostBytes};
 
 // The most bytes that the lines of a deck can have: 32 commands, 10 of them with 5 and 22 with 6, and the line `steps 256`.
-pub const MOST_BYTES: usize = 192;
+pub const MOST_BYTES: usize = 193;
 
 // One byte.
 fn put_byte(out: &mut [u8], at: usize, b: u8) -> usize
@@ -99,7 +99,7 @@ fn put_count(out: &mut [u8], at: usize, word: &[u8], n: u64) -> usize
 
 // The lines of an outcome, with the codes of its commands.
 fn put_outcome(out: &mut [u8], outcome: Outcome, codes: [u8; 32]) -> usize
-    requires { ⌜ (commandsIn outcome ≤ 32) × (stepsIn outcome ≤ 256) × (mostBytes ≤ length (now out)) ⌝ }
+    requires { ⌜ (commandsIn outcome ≤ 32) × (stepsIn outcome ≤ 1_024) × (mostBytes ≤ length (now out)) ⌝ }
     ensures { λ r. ⌜ Put (now (out .entry)) 0 (lines.linesOf (meant outcome codes)) r (now (out .exit)) ⌝ }
 {
     match outcome {

@@ -2,6 +2,7 @@
 use crate::Outcome;
 use crate::Report;
 use crate::laid;
+use chain::links;
 use chain::walk;
 use meaning::Drive;
 use meaning::Record;
@@ -16,15 +17,19 @@ ghost use Rattle.deck.specs.Meant.{Reports, codesOf, chainOutcome};
 fn empty_table() -> [Record; 32]
     ensures { λ t. ⌜ t ≡ noRecords ⌝ }
 {
-    [Record {
+    let list = links::no_links();
+    let none = Record {
         iopb: 0,
         address: 0,
         sector: 0,
         taken: 0,
+        ranges: 0,
         count: 0,
         byte0: 0,
         code: 0,
-    }; 32]
+        list,
+    };
+    [none; 32]
 }
 
 // The codes of the commands, in front of zeros.

@@ -24,7 +24,7 @@ R = Rec.the-row
 
 -- the bytes of a record, and of a number of steps
 abbrev pub recordSize : ℕ
-recordSize = 20
+recordSize = 280
 
 abbrev pub stepsSize : ℕ
 stepsSize = 4

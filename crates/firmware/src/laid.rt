@@ -3,6 +3,7 @@
 use board::pick::PickedRecord;
 use board::run::RanTaken;
 use board::table;
+use chain::links;
 use chain::walk::MOST_COMMANDS;
 use meaning::Ran;
 use meaning::Record;
@@ -19,14 +20,17 @@ ghost use Rattle.firmware.specs.Laid.{over, copiedOut, withRecord, withS
 pub(crate) fn blank() -> [Record; 32]
     ensures { λ t. ⌜ t ≡ noRecords ⌝ }
 {
+    let list = links::no_links();
     let none = Record {
         iopb: 0,
         address: 0,
         sector: 0,
         taken: 0,
+        ranges: 0,
         count: 0,
         byte0: 0,
         code: 0,
+        list,
     };
     [none; 32]
 }

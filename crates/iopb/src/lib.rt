@@ -50,6 +50,13 @@ pub fn byte0(m: &[u8], at: u32) -> u8
     byte_of(m, at, 0)
 }
 
+// Byte 6 whole: how many elements the link list has, and the interrupt level.
+pub fn byte6(m: &[u8], at: u32) -> u8
+    ensures { λ r. ⌜ r ≡ iopb.byteOf (now (m .entry)) at 6 ⌝ }
+{
+    byte_of(m, at, 6)
+}
+
 // ERRS, bit 7 of byte 0.
 pub fn errs(m: &[u8], at: u32) -> u8
     ensures { λ r. ⌜ r ≡ iopb.errs (now (m .entry)) at ⌝ }

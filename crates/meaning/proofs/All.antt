@@ -14,6 +14,10 @@ module _ {A : Type 0} where
   all-map P Q f [] h = tt
   all-map P Q f (x ∷ xs) h = (f x (h .0), all-map P Q f xs (h .1))
 
+  pub all-both : (P Q : A → Type 0) (xs : List A) → All P xs → All Q xs → All (λ x. P x × Q x) xs
+  all-both P Q [] h k = tt
+  all-both P Q (x ∷ xs) h k = ((h .0, k .0), all-both P Q xs (h .1) (k .1))
+
   -- x is one of a list
   pub data Among (x : A) : List A → Type 0 where
     here : {xs : List A} → Among x (x ∷ xs)

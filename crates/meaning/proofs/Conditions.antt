@@ -1,11 +1,12 @@
 -- Each condition means what its test computes: read off part by part with the laws of `Means`. And a record that number 9 lets pass,
 -- taken apart.
 use mathlib.Core.Path.{_≡_}
-use mathlib.Core.Logic.{_⊎_, inl, inr}
+use mathlib.Core.Logic.{_≢_, _⊎_, inl, inr}
 use Prim.Native.Nat.{ℕ, _+_, _*_, _≤_, _<_}
 use native.Mathlib.Nat.{one-le-mul}
 use native.Mathlib.Omega.{arith}
 use mathlib.Core.Bool.{Bool, true, false, not, _&&_, or-assoc}
+use mathlib.Core.List.{List, [], _∷_}
 use lib.ListN.{length}
 use lib.Dec.{leb, eqb}
 use Rattle.meaning.specs.declared.Drive.{Drive}
@@ -15,11 +16,15 @@ use Rattle.meaning.specs.State.{State, mostCommands}
 use Rattle.meaning.specs.Sectors.{sectorBytes, imageLimit, perCylinder, sectorCount, maximaRight, imageRight}
 use Rattle.meaning.specs.Fields.{iopbBytes}
 use Rattle.meaning.specs.Sizes.{memoryLimit, storeWrong, sizesWrong}
-use Rattle.meaning.specs.Code.{commandIn, read, write}
+use Rattle.meaning.specs.Ranges.{Range}
+use Rattle.meaning.specs.Links.{mostLinks, bytesIn}
+use Rattle.meaning.specs.Code.{commandIn, read, write, outside}
+use Rattle.meaning.specs.Touch.{dataBytes}
 use Rattle.meaning.specs.Command.{reads, writes, transfers, stepsOf, finished, noRecord}
 use Rattle.meaning.specs.Pick.{badTransfer, badRecord, spoiled}
-use Rattle.meaning.specs.Conditions.{MaximaWrong, ImageWrong, StoreWrong, SizesWrong, Reads, Writes, Finished, BadTransfer, BadRecord, Spoiled}
-use Rattle.meaning.proofs.Means.{Means, holds, fails, when-true, when-false, means-itself, means-and, means-or, means-or₃, means-not-and, means-above, means-other, means-lt, means-le, means-eq, means-some}
+use Rattle.meaning.specs.Conditions.{MaximaWrong, ImageWrong, StoreWrong, SizesWrong, Reads, Writes, Finished, SomeOf, Outside, BadTransfer, BadRecord, Spoiled}
+use Rattle.meaning.proofs.Means.{Means, holds, fails, when-true, when-false, means-itself, means-and, means-or, means-or₃, means-not-and, means-above, means-other, means-lt, means-le, means-eq, means-of, means-some}
+use Rattle.meaning.proofs.All.{All}
 
 -- ---- sizes
 
@@ -88,14 +93,30 @@ means-finished r = means-le (stepsOf r) (r .taken)
 
 -- ---- number 9
 
+pub means-outside : (n : ℕ) (x : Range) → Means (Outside n x) (outside n x)
+means-outside n x = means-lt n (x .from + x .many)
+
+at-most : {a b : ℕ} → ¬ (a < b) → b ≤ a
+at-most h = omega arith
+
+-- a range that lies in a memory of n bytes; so does each where none lies outside
+abbrev pub Inside : ℕ → Range → Type 0
+Inside n x = x .from + x .many ≤ n
+
+pub all-inside : (n : ℕ) (xs : List Range) → ¬ SomeOf (Outside n) xs → All (Inside n) xs
+all-inside n [] h = tt
+all-inside n (x ∷ xs) h = (at-most (λ o. h (inl o)), all-inside n xs (λ o. h (inr o)))
+
 pub means-bad-transfer : (d : Drive) (s : Store) (r : Record) → Means (BadTransfer d s r) (badTransfer d s r)
 unfolding badTransfer
 means-bad-transfer d s r =
     simp or-assoc
     (means-or (means-eq (r .count) 0)
-    (means-or (means-lt (length (s memory)) (r .address + sectorBytes * r .count))
+    (means-or (means-lt mostLinks (r .ranges))
+    (means-or (means-of (means-outside (length (s memory))) (dataBytes r))
+    (means-or (means-other (bytesIn (dataBytes r)) (sectorBytes * r .count))
     (means-or (means-lt (sectorCount d) (r .sector + r .count))
-    (means-and (means-writes r) (means-itself (d .protected))))))
+    (means-and (means-writes r) (means-itself (d .protected))))))))
 
 pub means-bad-record : (d : Drive) (s : Store) (r : Record) → Means (BadRecord d s r) (badRecord d s r)
 unfolding badRecord
@@ -112,7 +133,9 @@ pub record Good (d : Drive) (s : Store) (r : Record) : Type 0 where
   pub placed : r .iopb + iopbBytes ≤ length (s memory)
   pub few : r .taken ≤ stepsOf r
   pub some : transfers r ≡ true → 1 ≤ r .count
-  pub bytes-in : transfers r ≡ true → r .address + sectorBytes * r .count ≤ length (s memory)
+  pub held : transfers r ≡ true → r .ranges ≤ mostLinks
+  pub bytes-in : transfers r ≡ true → All (Inside (length (s memory))) (dataBytes r)
+  pub bytes-whole : transfers r ≡ true → bytesIn (dataBytes r) ≡ sectorBytes * r .count
   pub sectors-in : transfers r ≡ true → r .sector + r .count ≤ sectorCount d
 
 pub good : (d : Drive) (s : Store) (r : Record) → badRecord d s r ≡ false → Good d s r
@@ -123,12 +146,15 @@ good d s r e =
       placed = at-most (λ h. n (inl h));
       few = at-most (λ h. n (inr (inl h)));
       some = λ t. above (λ z. transfer t (inl z));
-      bytes-in = λ t. at-most (λ h. transfer t (inr (inl h)));
-      sectors-in = λ t. at-most (λ h. transfer t (inr (inr (inl h))));
+      held = λ t. at-most (λ h. transfer t (inr (inl h)));
+      bytes-in = λ t. all-inside (length (s memory)) (dataBytes r) (λ o. transfer t (inr (inr (inl o))));
+      bytes-whole = λ t. same (means-eq (bytesIn (dataBytes r)) (sectorBytes * r .count)) (λ o. transfer t (inr (inr (inr (inl o)))));
+      sectors-in = λ t. at-most (λ h. transfer t (inr (inr (inr (inr (inl h))))));
     }
   where
-    at-most : {a b : ℕ} → ¬ (a < b) → b ≤ a
-    at-most h = omega arith
-
     above : {a : ℕ} → ¬ (a ≡ 0) → 1 ≤ a
     above h = omega arith
+
+    same : {a b : ℕ} {x : Bool} → Means (a ≡ b) x → ¬ (a ≢ b) → a ≡ b
+    same (holds q) h = q
+    same (fails q) h = absurd (h q)

@@ -1,10 +1,10 @@
 -- Two commands conflict, by the ranges that they touch, exactly where one of them writes a byte or sector that the other reads or
 -- writes; and a command waits exactly where an earlier unfinished one conflicts with it. Ranges meet where something is in both.
-use mathlib.Core.Path.{_≡_, refl}
+use mathlib.Core.Path.{_≡_, refl, sym, ap}
 use mathlib.Core.Logic.{_↔_, _⊎_, inl, inr, ⊎-elim, ⊎-map, Iff·rfl, Iff·trans}
 use Prim.Native.Nat.{ℕ}
 use mathlib.Core.Bool.{Bool, true, false, not, _&&_}
-use mathlib.Core.List.{List, [], _∷_, _++_}
+use mathlib.Core.List.{List, [], _∷_, _++_, append-nil}
 use lib.ListN.{getD}
 use Rattle.meaning.specs.declared.Record.{Record}
 use Rattle.meaning.specs.Store.{Space}
@@ -65,19 +65,19 @@ touched-by-kind r = go (means-reads r) (means-writes r)
     go : {a b : Bool} → Means (Reads r) a → Means (Writes r) b → touchedBy a b r ≡ byKind a b r
     go (holds p) (holds q) = absurd (not-both r p q)
     go (holds p) (fails n) = refl
-    go (fails n) (holds q) = refl
+    go (fails n) (holds q) = ap (λ (rs : List Range). record { read = rs; written = sectors r ∷ statusBytes r ∷ [] }) (sym (append-nil (dataBytes r)))
     go (fails n) (fails m) = refl
 
 module _ (r : Record) (p : Space) (x : ℕ) where
   in-read : InSome (kinds r .read) p x ↔ ReadsAt r p x
   in-read =
       Iff·trans (in-append p x (given (writes r) (dataBytes r)) (given (reads r) (sectors r ∷ [])))
-      (⊎-iff (in-given p x (dataBytes r) (means-writes r) (in-one p x _)) (in-given p x (sectors r ∷ []) (means-reads r) (in-one p x (sectors r))))
+      (⊎-iff (in-given p x (dataBytes r) (means-writes r) Iff·rfl) (in-given p x (sectors r ∷ []) (means-reads r) (in-one p x (sectors r))))
 
   in-written : InSome (kinds r .written) p x ↔ WritesAt r p x
   in-written =
       Iff·trans (in-append p x (given (reads r) (dataBytes r)) (given (writes r) (sectors r ∷ []) ++ statusBytes r ∷ []))
-      (⊎-iff (in-given p x (dataBytes r) (means-reads r) (in-one p x _))
+      (⊎-iff (in-given p x (dataBytes r) (means-reads r) Iff·rfl)
       (Iff·trans (in-append p x (given (writes r) (sectors r ∷ [])) (statusBytes r ∷ []))
       (⊎-iff (in-given p x (sectors r ∷ []) (means-writes r) (in-one p x (sectors r))) (in-one p x (statusBytes r)))))
 

@@ -15,6 +15,8 @@ pub mod Ranges
 pub mod Conditions
 pub mod Looks
 pub mod Conflict
+pub mod Links
+pub mod Pieces
 pub mod Records
 pub mod Numbers
 pub mod Counts

@@ -11,6 +11,7 @@ use lib.ListN.{length, getD, take}
 use lib.Dec.{ltb, leb, eqb}
 use borrow.Author.Tests.{ltb-true, ltb-false, leb-true, leb-false, eqb-true, eqb-false}
 use Rattle.meaning.specs.Each.{someOf}
+use Rattle.meaning.specs.Conditions.{SomeOf}
 
 pub data Means (P : Type 0) : Bool → Type 0 where
   holds : P → Means P true
@@ -33,6 +34,10 @@ module _ {P : Type 0} where
   pub is-false : {b : Bool} → Means P b → ¬ P → b ≡ false
   is-false (holds p) n = absurd (n p)
   is-false (fails n) m = refl
+
+  pub same-test : {a b : Bool} → Means P a → Means P b → a ≡ b
+  same-test (holds p) y = sym (is-true y p)
+  same-test (fails n) y = sym (is-false y n)
 
   -- a proposition as good as another
   pub means-iff : {Q : Type 0} {b : Bool} → P ↔ Q → Means P b → Means Q b
@@ -90,6 +95,11 @@ means-above a b = means-not (λ h k. omega arith) (λ n. omega arith) (means-le 
 
 pub means-other : (a b : ℕ) → Means (a ≢ b) (not (eqb a b))
 means-other a b = means-not (λ h n. n h) (λ n. n) (means-eq a b)
+
+-- one of a list
+pub means-of : {A : Type 0} {P : A → Type 0} {p : A → Bool} → ((x : A) → Means (P x) (p x)) → (xs : List A) → Means (SomeOf P xs) (someOf p xs)
+means-of means [] = fails (λ h. h)
+means-of means (x ∷ xs) = means-or (means x) (means-of means xs)
 
 -- one of the first n of a list
 module _ {A : Type 0} {P : A → Type 0} {p : A → Bool} (means : (x : A) → Means (P x) (p x)) (d : A) where

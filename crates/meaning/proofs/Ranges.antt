@@ -11,8 +11,8 @@ use Rattle.meaning.specs.Store.{Space, memory, disk, same}
 use Rattle.meaning.specs.Fields.{iopbBytes}
 use Rattle.meaning.specs.Ranges.{Range, bytes, crosses, overlap, meet}
 use Rattle.meaning.specs.Walk.{shares}
-use Rattle.meaning.specs.Conditions.{LiesIn, Shares, OverlapIsSharing}
-use Rattle.meaning.proofs.Means.{Means, holds, fails, when-true, is-true, means-iff, means-and, means-or, means-lt, means-eq}
+use Rattle.meaning.specs.Conditions.{LiesIn, Shares, SomeOf, OverlapIsSharing}
+use Rattle.meaning.proofs.Means.{Means, holds, fails, when-true, is-true, same-test, means-iff, means-and, means-or, means-lt, means-eq}
 
 pub means-same : (p q : Space) → Means (p ≡ q) (same p q)
 means-same memory memory = holds refl
@@ -47,8 +47,7 @@ means-shares a b = means-iff ((λ c. (c .1, c .2 .1, c .3 .1)), λ c. (memory, c
 
 -- x of a space lies in some range of a list
 abbrev pub InSome : List Range → Space → ℕ → Type 0
-InSome [] p x = ⊥
-InSome (r ∷ rs) p x = LiesIn r p x ⊎ InSome rs p x
+InSome rs p x = SomeOf (λ r. LiesIn r p x) rs
 
 swapped : {P Q : Space → ℕ → Type 0} {b : Bool} → Means (Common P Q) b → Means (Common Q P) b
 swapped h = means-iff ((λ c. (c .0, c .1, c .3, c .2)), (λ c. (c .0, c .1, c .3, c .2))) h
@@ -71,3 +70,7 @@ pub means-meet : (xs ys : List Range) → Means (Common (InSome xs) (InSome ys))
 means-meet xs ys =
     swapped (means-in-some (InSome ys) (λ r. someOf (overlap r) ys)
     (λ r. swapped (means-in-some (LiesIn r) (overlap r) (means-overlap r) ys)) xs)
+
+-- two tests of one proposition are the same, so it does not matter which list comes first
+pub meet-swap : (xs ys : List Range) → meet xs ys ≡ meet ys xs
+meet-swap xs ys = same-test (means-meet xs ys) (swapped (means-meet ys xs))

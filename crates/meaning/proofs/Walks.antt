@@ -1,8 +1,7 @@
 -- What an accepted walk gives: at most 32 records, all as number 9 asks, with no step taken; so 1 and 9 let it pass. Going along the
 -- chain, each record that the walk fills is good, since its code was fixed by the same tests.
 use mathlib.Core.Path.{_≡_, refl, sym, ap, ap₂, _∙_, subst}
-use Prim.Native.Nat.{ℕ, zero, suc, _+_, _*_, _≤_, _<_, zero-le}
-use native.Mathlib.Nat.{not-suc-le-zero, le-add-right}
+use Prim.Native.Nat.{ℕ, zero, suc, _+_, _≤_, _<_, zero-le}
 use native.Mathlib.Omega.{arith}
 use mathlib.Core.Bool.{Bool, true, false, not, _&&_, cond}
 use mathlib.Core.List.{List, [], _∷_, _++_, map}
@@ -17,67 +16,98 @@ use Rattle.meaning.specs.First.{Row, firstOf, _↝_}
 use Rattle.meaning.specs.Each.{someOf, sumOf}
 use Rattle.meaning.specs.Store.{memory, Store}
 use Rattle.meaning.specs.State.{State, mostCommands}
-use Rattle.meaning.specs.Sectors.{sectorBytes, sectorCount}
+use Rattle.meaning.specs.Sectors.{sectorCount}
 use Rattle.meaning.specs.Sizes.{sizesWrong}
 use Rattle.meaning.specs.Fields.{allIn}
-use Rattle.meaning.specs.Code.{copiedAt, nop, write, commandIn, odd, firstSector, codeOf, commandRows, transferRows}
-use Rattle.meaning.specs.Walk.{recordOf, goesOn, shares, Chain, refused, accepted, follow, chainAt, answered, filled, walkReply, walkLeaves}
+use Rattle.meaning.specs.declared.Link.{Link}
+use Rattle.meaning.specs.Links.{mostLinks}
+use Rattle.meaning.specs.Code.{copiedAt, nop, write, commandIn, odd, firstSector, linksIn, listOutside, commandRows, transferRows, dataRows, codeOf, earlyCode, linksRead}
+use Rattle.meaning.specs.Walk.{recordOf, goesOn, shares, Chain, refused, accepted, follow, chainAt, filled}
 use Rattle.meaning.specs.Command.{transfers, stepsOf, remaining}
 use Rattle.meaning.specs.Pick.{badTransfer, badRecord, spoiled}
 use Rattle.meaning.specs.Run.{chainSteps, stepsLeft}
 use Rattle.meaning.proofs.All.{All, all-append, Among, here, there, all-at}
-use Rattle.meaning.proofs.Tests.{and-no}
+use Rattle.meaning.proofs.Tests.{and-no, sum-map}
+use Rattle.meaning.proofs.Links.{in-few, in-listed, none-outside, links-kept}
 use Rattle.meaning.proofs.Numbers.{Off, rows-off, off-last, Passed, sizes-long}
 
 -- ---- a code of 00
 
--- of a transfer whose code is 00, no row of what only a transfer is asked applies
-code-zero : (c : Copied) (d : Drive) (n : ℕ) → codeOf c d n ≡ 0 → eqb (commandIn (c .byte0)) nop ≡ false → All Off (transferRows c d n)
-unfolding codeOf
-code-zero c d n e h =
-    let every = rows-off (commandRows c) (firstOf (transferRows c d n) 0) e (rw h) in
-    rows-off (transferRows c d n) 0 (sym (off-last (commandRows c) (firstOf (transferRows c d n) 0) every) ∙ e) refl
+-- of a transfer whose code is 00, no row of what only a transfer is asked applies, neither before its data is looked at nor after
+module _ (c : Copied) (d : Drive) (n : ℕ) (xs : List Link) (zero-code : codeOf c d n xs ≡ 0) (other : eqb (commandIn (c .byte0)) nop ≡ false) where
+  abbrev by-data : ℕ
+  by-data = firstOf (dataRows c n xs) 0
 
--- a row of that table, found by what it says
-row : (c : Copied) (d : Drive) (n : ℕ) {r : Row} → codeOf c d n ≡ 0 → eqb (commandIn (c .byte0)) nop ≡ false → Among r (transferRows c d n) → Off r
-row c d n e h a = all-at Off (code-zero c d n e h) a
+  commands-off : All Off (commandRows c)
+  unfolding codeOf
+  commands-off = rows-off (commandRows c) (firstOf (transferRows c d) by-data) zero-code (rw other)
+
+  transfer-code : firstOf (transferRows c d) by-data ≡ 0
+  unfolding codeOf
+  transfer-code = sym (off-last (commandRows c) (firstOf (transferRows c d) by-data) commands-off) ∙ zero-code
+
+  transfer-off : All Off (transferRows c d)
+  transfer-off = rows-off (transferRows c d) by-data transfer-code refl
+
+  -- a row of that table, found by what it says
+  row : {r : Row} → Among r (transferRows c d) → Off r
+  row a = all-at Off transfer-off a
+
+  data-off : All Off (dataRows c n xs)
+  data-off = rows-off (dataRows c n xs) 0 (sym (off-last (transferRows c d) by-data transfer-off) ∙ transfer-code) refl
+
+  early-zero : earlyCode c d ≡ 0
+  unfolding earlyCode
+  early-zero = off-last (commandRows c) (firstOf (transferRows c d) 0) commands-off ∙ off-last (transferRows c d) 0 transfer-off
 
 -- ---- a record that the walk fills
 
+-- a code of 00 says that the list was read
+pub read-all : (m : List ℕ) (c : Copied) (d : Drive) → codeOf c d (length m) (linksIn m c) ≡ 0 → eqb (commandIn (c .byte0)) nop ≡ false → linksRead m c d ≡ linksIn m c
+unfolding linksRead
+read-all m c d e h =
+    let off = data-off c d (length m) (linksIn m c) e h in
+    rw (early-zero c d (length m) (linksIn m c) e h) (none-outside m c (off .0) (listOutside c (length m)) refl)
+
 -- so it is as number 9 asks
-code-good : (d : Drive) (s : Store) (c : Copied) (a : ℕ) → codeOf c d (length (s memory)) ≡ 0 → eqb (commandIn (c .byte0)) nop ≡ false
-    → badTransfer d s (recordOf c a d (length (s memory))) ≡ false
-unfolding badTransfer recordOf
-code-good d s c a e h =
-    let n = length (s memory) in
-    let none : eqb (c .count) 0 ≡ false = row c d n {r = eqb (c .count) 0 ↝ 0x13} e h (search (here, there) depth 12) in
-    let drive : ltb (sectorCount d) (firstSector d c + c .count) ≡ false = row c d n {r = ltb (sectorCount d) (firstSector d c + c .count) ↝ 0x10} e h (search (here, there) depth 12) in
-    let unprotected : (eqb (commandIn (c .byte0)) write && d .protected) ≡ false = row c d n {r = (eqb (commandIn (c .byte0)) write && d .protected) ↝ 0x90} e h (search (here, there) depth 12) in
-    let bytes : ltb n (c .address + sectorBytes * c .count) ≡ false = row c d n {r = ltb n (c .address + sectorBytes * c .count) ↝ 0x4B} e h (search (here, there) depth 12) in
-    rw (none, bytes, drive, e) unprotected
+module _ (d : Drive) (s : Store) (c : Copied) (a : ℕ) where
+  abbrev filling : Record
+  filling = recordOf c a d (s memory)
 
-transfer-good : (d : Drive) (s : Store) (c : Copied) (a : ℕ)
-    → let r = recordOf c a d (length (s memory)) in (transfers r && badTransfer d s r) ≡ false
-unfolding recordOf
-transfer-good d s c a = go (eqb (codeOf c d (length (s memory))) 0) (eqb (commandIn (c .byte0)) nop) refl refl
-  where
-    r : Record
-    r = recordOf c a d (length (s memory))
+  abbrev code-of : ℕ
+  code-of = codeOf c d (length (s memory)) (linksIn (s memory) c)
 
-    go : (x y : Bool) → eqb (codeOf c d (length (s memory))) 0 ≡ x → eqb (commandIn (c .byte0)) nop ≡ y → (transfers r && badTransfer d s r) ≡ false
-    go false y e h = rw e
-    go true true e h = rw (e, eqb-true (commandIn (c .byte0)) 0 h)
-    go true false e h = rw (code-good d s c a (eqb-true (codeOf c d (length (s memory))) 0 e) h) (and-no (transfers r))
+  code-good : code-of ≡ 0 → eqb (commandIn (c .byte0)) nop ≡ false → badTransfer d s filling ≡ false
+  unfolding badTransfer recordOf
+  code-good e h =
+      let m = s memory in
+      let n = length m in
+      let xs = linksIn m c in
+      let last = data-off c d n xs e h in
+      let none : eqb (c .count) 0 ≡ false = row c d n xs e h {r = eqb (c .count) 0 ↝ 0x13} (search (here, there) depth 12) in
+      let drive : ltb (sectorCount d) (firstSector d c + c .count) ≡ false = row c d n xs e h {r = ltb (sectorCount d) (firstSector d c + c .count) ↝ 0x10} (search (here, there) depth 12) in
+      let unprotected : (eqb (commandIn (c .byte0)) write && d .protected) ≡ false = row c d n xs e h {r = (eqb (commandIn (c .byte0)) write && d .protected) ↝ 0x90} (search (here, there) depth 12) in
+      let read = read-all m c d e h in
+      rw (read, links-kept xs, in-listed m c, none, le-ltb mostLinks (length xs) (in-few m c), last .1 .1 .1 .0, last .1 .0, drive, e) unprotected
+
+  transfer-good : (transfers filling && badTransfer d s filling) ≡ false
+  unfolding recordOf
+  transfer-good = go (eqb code-of 0) (eqb (commandIn (c .byte0)) nop) refl refl
+    where
+      go : (x y : Bool) → eqb code-of 0 ≡ x → eqb (commandIn (c .byte0)) nop ≡ y → (transfers filling && badTransfer d s filling) ≡ false
+      go false y e h = rw e
+      go true true e h = rw (e, eqb-true (commandIn (c .byte0)) 0 h)
+      go true false e h = rw (code-good (eqb-true code-of 0 e) h) (and-no (transfers filling))
 
 -- a record that number 9 lets pass, and of which no step is taken
 pub record Fresh (d : Drive) (s : Store) (r : Record) : Type 0 where
   pub sound : badRecord d s r ≡ false
   pub untaken : r .taken ≡ 0
 
-filled-fresh : (d : Drive) (s : Store) (c : Copied) (a : ℕ) → allIn (s memory) a ≡ true → Fresh d s (recordOf c a d (length (s memory)))
+filled-fresh : (d : Drive) (s : Store) (c : Copied) (a : ℕ) → allIn (s memory) a ≡ true → Fresh d s (recordOf c a d (s memory))
 unfolding badRecord recordOf
 filled-fresh d s c a h =
-    let r = recordOf c a d (length (s memory)) in
+    let r = recordOf c a d (s memory) in
     record { sound = rw (h, le-ltb (stepsOf r) 0 zero-le) (transfer-good d s c a); untaken = refl }
 
 -- ---- along the chain
@@ -99,7 +129,7 @@ follow-fine zero d s earlier a z l h = lit< tt
 follow-fine (suc more) d s earlier a z l h =
     let m = s .store memory in
     let c = copiedAt m a in
-    let r = recordOf c a d (length m) in
+    let r = recordOf c a d m in
     let rs = earlier ++ r ∷ [] in
     let longer : length rs ≡ length earlier + 1 = length-append earlier (r ∷ []) in
     let all : allIn m a ≡ true → All (Fresh d (s .store)) rs = λ e. all-append (Fresh d (s .store)) earlier (r ∷ []) h (filled-fresh d (s .store) c a e, tt) in
@@ -139,10 +169,6 @@ all-remain : (d : Drive) (s : Store) (rs : List Record) → All (Fresh d s) rs �
 all-remain d s [] h = refl
 all-remain d s (r ∷ rs) h = ap₂ _∷_ (fresh-remaining d s r (h .0)) (all-remain d s rs (h .1))
 
-sum-map : {A : Type 0} (f : A → ℕ) (xs : List A) → sumOf f xs ≡ sumOf (λ k. k) (map f xs)
-sum-map f [] = refl
-sum-map f (x ∷ xs) = ap (λ (k : ℕ). f x + k) (sum-map f xs)
-
 -- a chain's commands in a table t
 pub record Sound (d : Drive) (s : Store) (t : List Record) (n : ℕ) : Type 0 where
   -- 1 and 9 are not given
@@ -168,5 +194,5 @@ chain-is-sound d start s rs e =
             sizes = rw (table-length rs (s .table) (let z = h .1 in omega arith)) (h .0);
             sound = rw (le-ltb mostCommands (length rs) (h .1), take-append-seam rs more) (fresh-none d (s .store) rs (h .2));
           };
-      steps = rw take-append-seam (sum-map remaining rs ∙ ap (sumOf (λ k. k)) all ∙ sym (sum-map stepsOf rs));
+      steps = rw take-append-seam (sym (sum-map remaining (λ k. k) rs) ∙ ap (sumOf (λ k. k)) all ∙ sum-map stepsOf (λ k. k) rs);
     }

@@ -8,7 +8,7 @@ use Rattle.meaning.specs.declared.Record.{Record}
 use Rattle.meaning.specs.Store.{Store}
 use Rattle.meaning.specs.State.{State, mostCommands, stateOf}
 use Rattle.meaning.specs.Walk.{Chain, refused, accepted, chainAt}
-use Rattle.meaning.specs.Command.{noRecord}
+use Rattle.meaning.specs.Command.{blankRecord}
 use Rattle.meaning.specs.Run.{written, chainSteps}
 use Rattle.meaning.specs.Deck.{isDeck, benchDrive, benchMemory, benchImage}
 
@@ -22,7 +22,7 @@ pub data Outcome : Type 0 where
 
 -- a table that holds no command yet
 abbrev pub noRecords : List Record
-noRecords = replicate mostCommands noRecord
+noRecords = replicate mostCommands blankRecord
 
 abbrev pub benchState : List ℕ → State
 benchState b = stateOf (benchMemory b) benchImage noRecords

@@ -1,11 +1,16 @@
--- The code that each command will get: fixed at the walk, from the copied bytes (Code 1 to 12).
-use Prim.Native.Nat.{ℕ, _+_, _*_, _%_}
-use mathlib.Core.Bool.{Bool, not, _&&_, _||_}
+-- The code that each command will get: fixed at the walk, from the copied bytes and the copied link list (Code 1 to 12 and 14 to 16).
+use Prim.Native.Nat.{ℕ, _+_, _*_, _/_, _%_}
+use mathlib.Core.Bool.{Bool, not, _&&_, _||_, cond}
 use mathlib.Core.List.{List, [], _∷_}
+use lib.ListN.{length}
 use lib.Dec.{ltb, eqb}
 use Rattle.meaning.specs.First.{Row, firstOf, _↝_}
+use Rattle.meaning.specs.Each.{someOf}
 use Rattle.meaning.specs.declared.Drive.{Drive}
+use Rattle.meaning.specs.declared.Link.{Link}
 use Rattle.meaning.specs.Store.{theUnit}
+use Rattle.meaning.specs.Ranges.{Range}
+use Rattle.meaning.specs.Links.{linkBytes, mostLinks, linksAt, rangesOf, bytesIn}
 use Rattle.meaning.specs.Sectors.{sectorBytes, maximumOn, sectorCount, sectorNumber}
 use Rattle.meaning.specs.Fields as iopb
 use Rattle.meaning.specs.declared.Copied.{Copied}
@@ -17,6 +22,7 @@ copiedAt m a =
       byte0 = iopb.byteOf m a 0;
       subfunction = iopb.subfunction m a;
       unit = iopb.unit m a;
+      byte6 = iopb.byteOf m a 6;
       head = iopb.head m a;
       sector = iopb.sector m a;
       count = iopb.count m a;
@@ -52,20 +58,39 @@ odd a = eqb (a % 2) 1
 abbrev pub firstSector : Drive → Copied → ℕ
 firstSector d c = sectorNumber d (c .cylinder) (c .head) (c .sector)
 
+-- how many elements the link list has: bits 7-3 of byte 6, where 0 means 32 (IOPB 17, Link 1)
+abbrev pub linksField : Copied → ℕ
+linksField c = c .byte6 / 8 % 32
+
+unfoldable pub linkCount : Copied → ℕ
+linkCount c = cond (eqb (linksField c) 0) mostLinks (linksField c)
+
+-- the list of a command that has one, as it lies in memory m; none where SGM is clear (Link 3)
+unfoldable pub linksIn : List ℕ → Copied → List Link
+linksIn m c = cond (gathers c) (linksAt m (c .address) (linkCount c)) []
+
+-- the list is not all in a memory of n bytes
+abbrev pub listOutside : Copied → ℕ → Bool
+listOutside c n = ltb n (c .address + linkBytes * linkCount c)
+
+-- a range that ends past the end of a memory of n bytes, be it empty or not
+abbrev pub outside : ℕ → Range → Bool
+outside n r = ltb n (r .from + r .many)
+
 -- What every command is asked, row by row. A No Operation that comes this far has nothing more to be asked.
 abbrev pub commandRows : Copied → List Row
 commandRows c =
     -- Code 1: CHEN set and the next address odd, a next alignment error
     (chained c && odd (c .next)) ↝ 0x1E
-    -- Code 2: a command above 2, or SGM set, or byte 4 not zero
-    ∷ (ltb read (commandIn (c .byte0)) || gathers c || not (eqb (c .subfunction) 0)) ↝ 0x14
+    -- Code 2: a command above 2, or SGM with No Operation, or byte 4 not zero
+    ∷ (ltb read (commandIn (c .byte0)) || gathers c && eqb (commandIn (c .byte0)) nop || not (eqb (c .subfunction) 0)) ↝ 0x14
     -- Code 3: a No Operation
     ∷ eqb (commandIn (c .byte0)) nop ↝ 0x00
     ∷ []
 
--- What only a transfer is asked, row by row; n is the length of memory.
-abbrev pub transferRows : Copied → Drive → ℕ → List Row
-transferRows c d n =
+-- What only a transfer is asked, row by row, before its data is looked at.
+abbrev pub transferRows : Copied → Drive → List Row
+transferRows c d =
     -- Code 4: a unit that is not there, so a drive that is not ready
     not (eqb (c .unit) theUnit) ↝ 0x42
     -- Code 5: no sector is asked for
@@ -78,10 +103,29 @@ transferRows c d n =
     ∷ ltb (sectorCount d) (firstSector d c + c .count) ↝ 0x10
     -- Code 10: a Write Data on a protected drive
     ∷ (eqb (commandIn (c .byte0)) write && d .protected) ↝ 0x90
-    -- Code 11: the data goes past the end of memory, a bus error
-    ∷ ltb n (c .address + sectorBytes * c .count) ↝ 0x4B
+    ∷ []
+
+-- What its data is asked: n is the length of memory, xs its link list, if it has one.
+abbrev pub dataRows : Copied → ℕ → List Link → List Row
+dataRows c n xs =
+    -- Code 14: the list is not all in memory, a bus error
+    (gathers c && listOutside c n) ↝ 0x4B
+    -- Code 15: the lengths do not add up to the sectors
+    ∷ not (eqb (bytesIn (rangesOf (gathers c) (c .address) (c .count) xs)) (sectorBytes * c .count)) ↝ 0x1C
+    -- Code 16: a range of the list begins at an odd address
+    ∷ someOf (λ x. odd (x .address)) xs ↝ 0x1F
+    -- Code 11: a range goes past the end of memory, a bus error
+    ∷ someOf (outside n) (rangesOf (gathers c) (c .address) (c .count) xs) ↝ 0x4B
     ∷ []
 
 -- the first that applies wins; 00 otherwise (Code 12)
-unfoldable pub codeOf : Copied → Drive → ℕ → ℕ
-codeOf c d n = firstOf (commandRows c) (firstOf (transferRows c d n) 0x00)
+unfoldable pub codeOf : Copied → Drive → ℕ → List Link → ℕ
+codeOf c d n xs = firstOf (commandRows c) (firstOf (transferRows c d) (firstOf (dataRows c n xs) 0x00))
+
+-- the code of a command by the rows that do not look at its data
+unfoldable pub earlyCode : Copied → Drive → ℕ
+earlyCode c d = firstOf (commandRows c) (firstOf (transferRows c d) 0x00)
+
+-- the walk reads the list of a command to which none of those rows gives a code, if it is all in memory (Link 6)
+unfoldable pub linksRead : List ℕ → Copied → Drive → List Link
+linksRead m c d = cond (eqb (earlyCode c d) 0 && not (listOutside c (length m))) (linksIn m c) []

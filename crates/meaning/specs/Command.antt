@@ -1,9 +1,13 @@
 -- What a record says of its command: its kind, its steps, whether it is finished.
 use Prim.Native.Nat.{ℕ, _-_}
-use mathlib.Core.Bool.{Bool, _&&_, _||_, cond}
+use mathlib.Core.Bool.{Bool, not, _&&_, _||_, cond}
+use mathlib.Core.List.{List, []}
+use lib.ListN.{take}
 use lib.Dec.{leb, eqb}
 use Rattle.meaning.specs.declared.Record.{Record}
+use Rattle.meaning.specs.declared.Link.{Link}
 use Rattle.meaning.specs.Code.{commandIn, read, write}
+use Rattle.meaning.specs.Links.{noLinks}
 
 -- a Read Data with code 00
 abbrev pub reads : Record → Bool
@@ -31,6 +35,17 @@ unfoldable pub remaining : Record → ℕ
 unfolding stepsOf
 remaining r = stepsOf r - r .taken
 
+-- a command has a link list exactly if its number of ranges is not zero, whatever the copied byte 0 says (Link 4)
+abbrev pub listed : Record → Bool
+listed r = not (eqb (r .ranges) 0)
+
+abbrev pub linksOf : Record → List Link
+linksOf r = take (r .ranges) (r .list)
+
 -- what `getD` gives past the end of a table; no promise speaks of it
 abbrev pub noRecord : Record
-noRecord = record { iopb = 0; address = 0; sector = 0; taken = 0; count = 0; byte0 = 0; code = 0 }
+noRecord = record { iopb = 0; address = 0; sector = 0; taken = 0; ranges = 0; count = 0; byte0 = 0; code = 0; list = [] }
+
+-- a record of zeros, as a table has it that holds no command yet
+abbrev pub blankRecord : Record
+blankRecord = record { iopb = 0; address = 0; sector = 0; taken = 0; ranges = 0; count = 0; byte0 = 0; code = 0; list = noLinks }

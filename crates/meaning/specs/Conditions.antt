@@ -4,7 +4,7 @@ use mathlib.Core.Path.{_≡_}
 use mathlib.Core.Logic.{_↔_, _≢_, _⊎_}
 use Prim.Native.Nat.{ℕ, _+_, _*_, _%_, _≤_, _<_}
 use mathlib.Core.Bool.{true}
-use mathlib.Core.List.{List}
+use mathlib.Core.List.{List, [], _∷_}
 use lib.ListN.{length, getD}
 use Rattle.meaning.specs.declared.Drive.{Drive}
 use Rattle.meaning.specs.declared.Record.{Record}
@@ -16,7 +16,8 @@ use Rattle.meaning.specs.Fields.{iopbBytes}
 use Rattle.meaning.specs.Sizes.{memoryLimit}
 use Rattle.meaning.specs.Code.{commandIn, read, write}
 use Rattle.meaning.specs.Command.{stepsOf, noRecord}
-use Rattle.meaning.specs.Touch.{dataByte}
+use Rattle.meaning.specs.Links.{mostLinks, bytesIn}
+use Rattle.meaning.specs.Touch.{dataBytes}
 
 -- x is one of the n bytes, or sectors, from a on
 abbrev pub Within : ℕ → ℕ → ℕ → Type 0
@@ -64,11 +65,23 @@ Writes r = (r .code ≡ 0) × (commandIn (r .byte0) ≡ write)
 abbrev pub Finished : Record → Type 0
 Finished r = stepsOf r ≤ r .taken
 
--- count zero, data or sectors outside memory or drive, or writing to a protected drive
+-- one of the elements of a list is such a one
+abbrev pub SomeOf : {A : Type 0} → (A → Type 0) → List A → Type 0
+SomeOf P [] = ⊥
+SomeOf P (x ∷ xs) = P x ⊎ SomeOf P xs
+
+-- a range ends past the end of a memory of n bytes
+abbrev pub Outside : ℕ → Range → Type 0
+Outside n x = n < x .from + x .many
+
+-- count zero, more ranges than a record can hold, a range of its data outside memory, ranges that do not add up to its sectors, sectors
+-- outside the drive, or writing to a protected drive
 abbrev pub BadTransfer : Drive → Store → Record → Type 0
 BadTransfer d s r =
     (r .count ≡ 0)
-    ⊎ (length (s memory) < r .address + sectorBytes * r .count)
+    ⊎ (mostLinks < r .ranges)
+    ⊎ SomeOf (Outside (length (s memory))) (dataBytes r)
+    ⊎ (bytesIn (dataBytes r) ≢ sectorBytes * r .count)
     ⊎ (sectorCount d < r .sector + r .count)
     ⊎ (Writes r × (d .protected ≡ true))
 
@@ -83,7 +96,7 @@ Spoiled d n s = (mostCommands < n) ⊎ ((k : ℕ) × (k < n) × (k < length (s .
 
 -- What a command reads, and what it writes, at x of a space: byte x of memory, or sector x of a disk.
 abbrev pub InData : Record → Space → ℕ → Type 0
-InData r p x = (p ≡ memory) × Within x (dataByte r 0) (sectorBytes * r .count)
+InData r p x = SomeOf (λ y. LiesIn y p x) (dataBytes r)
 
 abbrev pub InStatus : Record → Space → ℕ → Type 0
 InStatus r p x = (p ≡ memory) × Within x (r .iopb) 4

@@ -47,6 +47,7 @@ answer (codeFrom d p n) =
       byte0 = 2;
       subfunction = 0;
       unit = 0;
+      byte6 = 0;
       head = p .head;
       sector = p .sector;
       count = n;
@@ -54,7 +55,7 @@ answer (codeFrom d p n) =
       address = 0x400;
       next = 0;
     })
-    d 4096
+    d 4096 []
     ∷ []
 answer (numberAt d p) = numberOf d p ∷ []
 answer (numberAfter d p) = maybeNumber d (placeAfter d p)

@@ -1,6 +1,6 @@
 -- The rules of the board as definitions. First how its tables of numbers are read, where bytes are, and what a drive is; an IOPB and a
--- viewer over it; the walk and the codes; steps and when a command waits; picks and runs; the bench; and examples, proved: the
--- starred ones, and those with a shorter last head.
+-- viewer over it; link lists, the codes and the walk; steps and when a command waits; picks and runs; the bench; and examples, proved: the
+-- starred ones, those with a shorter last head, and those with link lists.
 pub mod First
 pub mod Each
 pub mod OneReply
@@ -13,10 +13,12 @@ pub mod View
 pub mod Ranges
 pub mod State
 pub mod Sizes
+pub mod Links
 pub mod Code
 pub mod Walk
 pub mod Command
 pub mod Touch
+pub mod Pieces
 pub mod Step
 pub mod Pick
 pub mod Run
@@ -27,3 +29,4 @@ pub mod Bench
 pub mod Lines
 pub mod Starred
 pub mod LastHead
+pub mod Scatter

@@ -16,14 +16,19 @@ use Rattle.meaning.specs.Fields.{allIn}
 use Rattle.meaning.specs.declared.Record.{Record}
 use Rattle.meaning.specs.Sizes.{sizesWrong}
 use Rattle.meaning.specs.Command.{writes, transfers, stepsOf, finished, noRecord}
-use Rattle.meaning.specs.Touch.{conflict}
+use Rattle.meaning.specs.Code.{outside}
+use Rattle.meaning.specs.Links.{mostLinks, bytesIn}
+use Rattle.meaning.specs.Touch.{dataBytes, conflict}
 use Rattle.meaning.specs.Step.{step, stepped}
 
--- Spoiled 4 to 7: a code 00 transfer with count zero, with data or sectors outside memory or drive, or writing to a protected drive
+-- Spoiled 4 to 7, 9 and 10: a code 00 transfer with count zero, with more ranges than a record can hold, with a range of its data outside
+-- memory, with ranges that do not add up to its sectors, with sectors outside the drive, or writing to a protected drive
 unfoldable pub badTransfer : Drive → Store → Record → Bool
 badTransfer d s r =
     eqb (r .count) 0
-    || ltb (length (s memory)) (r .address + sectorBytes * r .count)
+    || ltb mostLinks (r .ranges)
+    || someOf (outside (length (s memory))) (dataBytes r)
+    || not (eqb (bytesIn (dataBytes r)) (sectorBytes * r .count))
     || ltb (sectorCount d) (r .sector + r .count)
     || writes r && d .protected
 

@@ -11,7 +11,7 @@ use Rattle.meaning.specs.Fields.{byteOf}
 use Rattle.meaning.specs.Ranges.{crosses}
 use Rattle.meaning.specs.State.{stateOf}
 use Rattle.meaning.specs.Sizes.{sizesWrong}
-use Rattle.meaning.specs.Code.{copiedAt, codeOf}
+use Rattle.meaning.specs.Code.{copiedAt, linkCount, linksIn, codeOf, earlyCode, linksRead}
 use Rattle.meaning.specs.Walk.{Chain, refused, accepted, recordOf, chainAt, filled}
 use Rattle.meaning.specs.Command.{stepsOf, finished, noRecord}
 use Rattle.meaning.specs.Touch.{conflict}
@@ -55,7 +55,7 @@ commandsIn (refused n) = []
 commandsIn (accepted rs) = rs
 
 abbrev pub noCommand : Record
-noCommand = record { iopb = 0; address = 0; sector = 0; taken = 0; count = 0; byte0 = 0; code = 255 }
+noCommand = record { iopb = 0; address = 0; sector = 0; taken = 0; ranges = 0; count = 0; byte0 = 0; code = 255; list = [] }
 
 -- the number of a first pick at place p on a deck's chain; 255 where there is none
 abbrev pub pickIn : List ℕ → ℕ → Chain → ℕ
@@ -121,7 +121,7 @@ rows =
     ∷ []
 
 pub starred-rows : Answered rows
-unfolding byteOf copiedAt codeOf recordOf chainAt sizesWrong maximaRight imageRight maximumOn perCylinder sectorCount sectorNumber benchMemory benchImage benchDrive pickNumber conflict crosses stepsOf finished
+unfolding byteOf copiedAt linkCount linksIn codeOf earlyCode linksRead recordOf chainAt sizesWrong maximaRight imageRight maximumOn perCylinder sectorCount sectorNumber benchMemory benchImage benchDrive pickNumber conflict crosses stepsOf finished
 starred-rows = refl
 
 -- ---- ours
@@ -175,5 +175,5 @@ ours =
     ∷ []
 
 pub our-rows : Answered ours
-unfolding byteOf copiedAt codeOf recordOf chainAt sizesWrong maximaRight imageRight maximumOn perCylinder sectorCount sectorNumber benchMemory benchImage benchDrive pickNumber conflict crosses stepsOf finished closing runNumber
+unfolding byteOf copiedAt linkCount linksIn codeOf earlyCode linksRead recordOf chainAt sizesWrong maximaRight imageRight maximumOn perCylinder sectorCount sectorNumber benchMemory benchImage benchDrive pickNumber conflict crosses stepsOf finished closing runNumber
 our-rows = refl

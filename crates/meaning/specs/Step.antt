@@ -1,28 +1,37 @@
 -- One step of a command on memory and image, and the bytes of a close. A step is a short list of moves.
-use Prim.Native.Nat.{ℕ, _+_, _*_, _%_}
+use Prim.Native.Nat.{ℕ, _+_, _-_, _*_, _%_}
 use mathlib.Core.Bool.{Bool, cond}
-use mathlib.Core.List.{List, [], _∷_, _++_}
+use mathlib.Core.List.{List, [], _∷_, _++_, map}
 use lib.Dec.{eqb}
 use Rattle.meaning.specs.declared.Drive.{Drive}
 use Rattle.meaning.specs.Store.{memory, disk, Store, theUnit, Area, area, Move, copy, post, moves}
 use Rattle.meaning.specs.Sectors.{sectorBytes, onDisk}
 use Rattle.meaning.specs.declared.Record.{Record}
 use Rattle.meaning.specs.Command.{reads, writes, stepsOf}
-use Rattle.meaning.specs.Touch.{dataByte}
+use Rattle.meaning.specs.Pieces.{Piece, piecesOf}
+use Rattle.meaning.specs.Touch.{dataBytes}
 
 -- step k of a command moves its k-th sector, in rising sector number; k counts from 0 (Step 3)
 abbrev pub sectorAt : Record → ℕ → Area
 sectorAt r k = onDisk theUnit (r .sector + k)
 
--- and the k-th 512 bytes of its data
-abbrev pub dataAt : Record → ℕ → Area
-dataAt r k = area memory (dataByte r (sectorBytes * k)) sectorBytes
+-- between the disk and bytes 512 k to 512 k + 511 of its data, in the pieces that these are laid in
+abbrev pub piecesAt : Record → ℕ → List Piece
+piecesAt r k = piecesOf (dataBytes r) 0 (sectorBytes * k) (sectorBytes * k + sectorBytes)
 
--- from the disk for a read, to the disk for a write
+-- a piece in memory, and the part of the sector that goes there or comes from there
+abbrev pub inMemory : Piece → Area
+inMemory p = area memory (p .from) (p .many)
+
+abbrev pub inSector : Record → ℕ → Piece → Area
+inSector r k p = area (disk theUnit) (sectorAt r k .from + (p .at - sectorBytes * k)) (p .many)
+
+-- from the disk for a read, to the disk for a write; piece by piece in the order of the list, so that where ranges overlap the later
+-- range of the list stays
 abbrev pub sectorMoveBy : Bool → Bool → Record → ℕ → List Move
 sectorMoveBy rd wr r k =
-    cond rd (copy (sectorAt r k) memory (dataAt r k .from) ∷ [])
-    (cond wr (copy (dataAt r k) (disk theUnit) (sectorAt r k .from) ∷ []) [])
+    cond rd (map (λ p. copy (inSector r k p) memory (inMemory p .from)) (piecesAt r k))
+    (cond wr (map (λ p. copy (inMemory p) (disk theUnit) (inSector r k p .from)) (piecesAt r k)) [])
 
 unfoldable pub sectorMove : Record → ℕ → List Move
 sectorMove r k = sectorMoveBy (reads r) (writes r) r k
@@ -59,7 +68,9 @@ stepped r =
       address = r .address;
       sector = r .sector;
       taken = r .taken + 1;
+      ranges = r .ranges;
       count = r .count;
       byte0 = r .byte0;
       code = r .code;
+      list = r .list;
     }

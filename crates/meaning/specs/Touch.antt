@@ -1,25 +1,21 @@
 -- What a command reads and writes from its first step to its close, as lists of ranges, and when two commands conflict (Touch 1 to 5).
-use Prim.Native.Nat.{ℕ, _+_, _*_}
 use mathlib.Core.Bool.{Bool, _||_, cond}
 use mathlib.Core.List.{List, [], _∷_, _++_}
 use Rattle.meaning.specs.Store.{theUnit}
-use Rattle.meaning.specs.Sectors.{sectorBytes}
 use Rattle.meaning.specs.Ranges.{Range, bytes, sectorsOf, meet}
+use Rattle.meaning.specs.Links.{rangesOf}
 use Rattle.meaning.specs.declared.Record.{Record}
-use Rattle.meaning.specs.Command.{reads, writes}
+use Rattle.meaning.specs.Command.{reads, writes, listed, linksOf}
 
 pub record Touched : Type 0 where
   pub read : List Range
   pub written : List Range
 
--- where byte j of a command's data is in memory: nothing else says where its data is
-abbrev pub dataByte : Record → ℕ → ℕ
-dataByte r j = r .address + j
-
--- its data bytes, its four status bytes, its sectors
+-- where a command's data is, laid end to end: nothing else says where it is (Link 8)
 abbrev pub dataBytes : Record → List Range
-dataBytes r = bytes (dataByte r 0) (sectorBytes * r .count) ∷ []
+dataBytes r = rangesOf (listed r) (r .address) (r .count) (linksOf r)
 
+-- its four status bytes, its sectors
 abbrev pub statusBytes : Record → Range
 statusBytes r = bytes (r .iopb) 4
 

@@ -14,19 +14,22 @@ use Rattle.meaning.specs.Store.{memory}
 use Rattle.meaning.specs.State.{State, mostCommands}
 use Rattle.meaning.specs.Ranges.{bytes, overlap}
 use Rattle.meaning.specs.Sizes.{sizesWrong}
-use Rattle.meaning.specs.Code.{copiedAt, codeOf, chained, odd, firstSector}
+use Rattle.meaning.specs.Links.{padded}
+use Rattle.meaning.specs.Code.{copiedAt, linksIn, linksRead, codeOf, chained, odd, firstSector}
 
--- a command's record as the walk fills it, whatever its code: no step taken yet (Record 3 and 4); n is the length of memory
-unfoldable pub recordOf : Copied → ℕ → Drive → ℕ → Record
-recordOf c a d n =
+-- a command's record as the walk fills it, whatever its code: no step taken yet (Record 3 and 4); m is memory
+unfoldable pub recordOf : Copied → ℕ → Drive → List ℕ → Record
+recordOf c a d m =
     record {
       iopb = a;
       address = c .address;
       sector = firstSector d c;
       taken = 0;
+      ranges = length (linksRead m c d);
       count = c .count;
       byte0 = c .byte0;
-      code = codeOf c d n;
+      code = codeOf c d (length m) (linksIn m c);
+      list = padded (linksRead m c d);
     }
 
 -- CHEN set means that another follows; with an odd next address the chain ends here all the same (Walk 2)
@@ -48,7 +51,7 @@ unfoldable pub follow : ℕ → List ℕ → Drive → List Record → ℕ → C
 follow zero m d earlier a = refused 5
 follow (suc left) m d earlier a =
     let c = copiedAt m a in
-    let commands = earlier ++ recordOf c a d (length m) ∷ [] in
+    let commands = earlier ++ recordOf c a d m ∷ [] in
     let rest = follow left m d commands (c .next) in
     cond (not (allIn m a)) (refused 3)
     (cond (someOf (λ r. shares (r .iopb) a) earlier) (refused 4)

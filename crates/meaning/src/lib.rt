@@ -40,14 +40,26 @@ pub struct Copied {
     pub byte0: u8,
     pub subfunction: u8,
     pub unit: u8,
+    // byte 6 whole: how many elements its link list has, where it has one, and the interrupt level
+    pub byte6: u8,
     pub head: u8,
     pub sector: u8,
     pub count: u16,
     pub cylinder: u16,
-    // the data address
+    // the data address, or that of the link list
     pub address: u32,
     // the next IOPB's address
     pub next: u32,
+}
+
+// One element of a link list: a range of memory, by where it begins and how many bytes it has. It fills its eight bytes, so that a table
+// has no byte that is left unset, and is copied and filled as plain bytes.
+#[repr(C)]
+pub struct Link {
+    pub address: u32,
+    pub length: u16,
+    // the walk makes it 0, and nothing looks at it
+    pub unused: u16,
 }
 
 // One accepted command. It holds what cannot be worked out again; its kind, its steps and what it touches follow from these.
@@ -55,18 +67,22 @@ pub struct Copied {
 pub struct Record {
     // where its IOPB is
     pub iopb: u32,
-    // the data address
+    // the data address: of its data, or of its link list
     pub address: u32,
     // the number of its first sector
     pub sector: u32,
     // steps taken
     pub taken: u32,
+    // how many ranges its link list has; 0 where it has no list
+    pub ranges: u32,
     // how many sectors
     pub count: u16,
     // the copied byte 0
     pub byte0: u8,
     // the code that its close will post
     pub code: u8,
+    // the ranges, as the walk copied them, before elements of zeros
+    pub list: [Link; 32],
 }
 
 // What the walk answers: its number, and how many commands there are (0 on a refusal).

@@ -1,11 +1,11 @@
 -- What a chain comes to, from IOPB to IOPB: `follow` gives the verdict of the first IOPB where a case of the walk's table holds, and has
 -- laid up the records of those before it.
-use mathlib.Core.Path.{_≡_, refl, sym, _∙_, ap}
+use mathlib.Core.Path.{_≡_, refl}
 use mathlib.Core.Logic.{_≢_, _⊎_, inl, inr, ⊎-elim}
 use Prim.Native.Nat.{ℕ, zero, suc, _+_, _%_, _<_}
 use native.Mathlib.Nat.{not-suc-le-zero, le-of-suc-le-suc, eq-or-lt-of-le}
 use native.Mathlib.Omega.{arith}
-use mathlib.Core.Bool.{Bool, true, false, not, _||_, cond, or-assoc, or-false, Bool·not-not}
+use mathlib.Core.Bool.{Bool, true, false, not, cond, or-false, Bool·not-not}
 use mathlib.Core.List.{List, [], _∷_, _++_}
 use lib.ListN.{length}
 use lib.Dec.{eqb}
@@ -19,6 +19,7 @@ use Rattle.meaning.specs.Walk.{recordOf, shares, goesOn, Chain, refused, accept
 use Rattle.meaning.specs.Table.{Given, NoneOf}
 use Rattle.meaning.specs.Conditions.{Shares}
 use Rattle.meaning.proofs.Means.{Means, holds, fails, when-true, when-false, means-iff, means-or, means-not-and, means-above, means-eq, means-other}
+use Rattle.meaning.proofs.Tests.{some-append}
 use Rattle.meaning.proofs.Ranges.{means-shares}
 use Rattle.promises.specs.WalkNumbers.{reached, OutOfMemory, SharesEarlier, Ends, atIopb, Comes, InTurn}
 
@@ -26,14 +27,10 @@ use Rattle.promises.specs.WalkNumbers.{reached, OutOfMemory, SharesEarli
 pub up-to : (P : ℕ → Type 0) {k : ℕ} → ((j : ℕ) → j < k → P j) → P k → (j : ℕ) → j < suc k → P j
 up-to P {k} below here j h = ⊎-elim (λ e. rw e here) (below j) (eq-or-lt-of-le (le-of-suc-le-suc h))
 
-some-append : {A : Type 0} (p : A → Bool) (xs ys : List A) → someOf p (xs ++ ys) ≡ (someOf p xs || someOf p ys)
-some-append p [] ys = refl
-some-append p (x ∷ xs) ys = ap (λ b. p x || b) (some-append p xs ys) ∙ sym (or-assoc (p x) (someOf p xs) (someOf p ys))
-
 module _ (m : List ℕ) (d : Drive) (start : ℕ) where
   -- the k-th command's record, and the records of the first k
   abbrev pub recordAt : ℕ → Record
-  recordAt k = recordOf (copiedAt m (reached m start k)) (reached m start k) d (length m)
+  recordAt k = recordOf (copiedAt m (reached m start k)) (reached m start k) d m
 
   abbrev pub commandsTo : ℕ → List Record
   commandsTo zero = []

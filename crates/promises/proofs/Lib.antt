@@ -11,12 +11,14 @@ pub mod Views
 pub mod Refused
 -- demand 2: what one step moves, and what many do
 pub mod Bytes
+pub mod Scattered
 pub mod StepMoves
 pub mod Closing
 pub mod PickMoves
 pub mod Taken
 pub mod AsWritten
 pub mod WrittenThenRead
+pub mod OneRange
 -- and, since steps keep lengths, one reply
 pub mod OneReply
 pub mod Example

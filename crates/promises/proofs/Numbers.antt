@@ -16,19 +16,20 @@ use Rattle.meaning.specs.Sectors.{sectorBytes, maximumOn, sectorCount, largestS
 use Rattle.meaning.specs.Fields.{iopbBytes, bit}
 use Rattle.meaning.specs.Look.{lookNumber}
 use Rattle.meaning.specs.View.{madeNumber, viewOf}
-use Rattle.meaning.specs.Code.{nop, write, read, commandIn, firstSector, codeOf}
+use Rattle.meaning.specs.Links.{linkBytes, bytesIn}
+use Rattle.meaning.specs.Code.{nop, write, read, commandIn, firstSector, linkCount, linksIn, codeOf}
 use Rattle.meaning.specs.Command.{noRecord}
 use Rattle.meaning.specs.Pick.{placeNumber, pickNumber, PickGives}
 use Rattle.meaning.specs.Run.{runNumber, runReply, RunGives}
 use Rattle.meaning.specs.Table.{Given}
-use Rattle.meaning.proofs.Means.{Means, holds, fails, when-true, is-true, means-iff, means-itself, means-and, means-or₃, means-lt, means-le, means-above, means-eq, means-other}
+use Rattle.meaning.proofs.Means.{Means, holds, fails, when-true, is-true, means-iff, means-itself, means-and, means-or₃, means-lt, means-le, means-above, means-eq, means-other, means-of}
 use Rattle.meaning.proofs.Table.{otherwise, _&_, by-number, by-place}
-use Rattle.meaning.proofs.Conditions.{some-sector, means-image, means-sizes, means-finished, means-spoiled}
+use Rattle.meaning.proofs.Conditions.{some-sector, means-image, means-sizes, means-finished, means-outside, means-spoiled}
 use Rattle.meaning.proofs.Conflict.{means-conflict, means-waits}
 use Rattle.promises.specs.PickNumbers.{pickTable, runTable, PickExactlyWhen, RunExactlyWhen, ConflictExactlyWhen}
 use Rattle.promises.specs.Looks.{LookExactlyWhen}
 use Rattle.promises.specs.Views.{viewTable, ViewExactlyWhen}
-use Rattle.promises.specs.Codes.{SectorAbove, CodeExactlyWhen}
+use Rattle.promises.specs.Codes.{SectorAbove, Data, CodeExactlyWhen}
 
 -- ---- picks and runs
 
@@ -97,12 +98,12 @@ means-sector-above d c = go (means-eq (c .head) (d .head))
         above (inl l) = absurd (n (l .0))
         above (inr l) = l .1
 
-pub code-exactly-when : (c : Copied) (d : Drive) (n code : ℕ) → CodeExactlyWhen c d n code
+pub code-exactly-when : (c : Copied) (d : Drive) (m : List ℕ) (code : ℕ) → CodeExactlyWhen c d m code
 unfolding codeOf
-code-exactly-when c d n =
+code-exactly-when c d m =
     by-place
     (means-and (means-eq (bit 5 (c .byte0)) 1) (means-eq (c .next % 2) 1)
-    & means-or₃ (means-lt read (commandIn (c .byte0))) (means-eq (bit 4 (c .byte0)) 1) (means-other (c .subfunction) 0)
+    & means-or₃ (means-lt read (commandIn (c .byte0))) (means-and (means-eq (bit 4 (c .byte0)) 1) (means-eq (commandIn (c .byte0)) nop)) (means-other (c .subfunction) 0)
     & means-eq (commandIn (c .byte0)) nop
     & means-other (c .unit) theUnit
     & means-eq (c .count) 0
@@ -111,5 +112,8 @@ code-exactly-when c d n =
     & means-sector-above d c
     & means-lt (sectorCount d) (firstSector d c + c .count)
     & means-and (means-eq (commandIn (c .byte0)) write) (means-itself (d .protected))
-    & means-lt n (c .address + sectorBytes * c .count)
+    & means-and (means-eq (bit 4 (c .byte0)) 1) (means-lt (length m) (c .address + linkBytes * linkCount c))
+    & means-other (bytesIn (Data m c)) (sectorBytes * c .count)
+    & means-of (λ x. means-eq (x .address % 2) 1) (linksIn m c)
+    & means-of (means-outside (length m)) (Data m c)
     & otherwise)

@@ -1,23 +1,30 @@
 -- A sector written and read back is equal: the steps between leave each byte of it, since whole sectors are written and theirs is another.
-use mathlib.Core.Path.{_≡_, refl, sym, _∙_}
-use mathlib.Core.Logic.{inl, inr}
-use Prim.Native.Nat.{ℕ, _+_, _*_, _≤_, _<_}
+-- And ranges that are disjoint lay each byte of the data in a place of its own.
+use mathlib.Core.Path.{_≡_, refl, _∙_}
+use mathlib.Core.Logic.{_≢_, inl, inr}
+use Prim.Native.Nat.{ℕ, _+_, _-_, _*_, _<_}
+use native.Mathlib.Nat.{not-suc-le-zero}
 use native.Mathlib.Omega.{arith}
+use mathlib.Core.Bool.{Bool, cond}
 use mathlib.Core.List.{List, [], _∷_, _++_}
-use lib.ListN.{length, getD, drop, length-take, length-drop}
-use lib.Seq.{ext-getD, getD-take, getD-drop}
+use lib.ListN.{getD}
 use Rattle.meaning.specs.declared.Drive.{Drive}
-use Rattle.meaning.specs.declared.Record.{Record}
-use Rattle.meaning.specs.Store.{memory, Store, theDisk}
+use Rattle.meaning.specs.Store.{theDisk}
 use Rattle.meaning.specs.State.{State}
 use Rattle.meaning.specs.Sectors.{sectorBytes}
+use Rattle.meaning.specs.Ranges.{Range}
+use Rattle.meaning.specs.Links.{bytesIn}
+use Rattle.meaning.specs.Pieces.{byteAt}
+use Rattle.meaning.specs.Touch.{dataBytes}
 use Rattle.meaning.specs.Pick.{stepAt}
-use Rattle.promises.specs.StepMoves.{sectorOf, inMemory}
+use Rattle.meaning.specs.Conditions.{Within, SomeOf}
+use Rattle.meaning.proofs.Means.{Means, holds, fails, means-lt}
+use Rattle.promises.specs.StepMoves.{sectorOf}
 use Rattle.promises.specs.PickMoves.{commandAt}
 use Rattle.promises.specs.Taken.{stepsAt, Along}
-use Rattle.promises.specs.WrittenThenRead.{Spares, dataOf, WrittenThenRead}
-use Rattle.promises.proofs.StepMoves.{no-memory, data-in, step-stays}
-use Rattle.promises.proofs.PickMoves.{may-step, taken-moves-one}
+use Rattle.promises.specs.WrittenThenRead.{Spares, Disjoint, DisjointSuffices, WrittenThenRead}
+use Rattle.promises.proofs.StepMoves.{no-memory, step-stays}
+use Rattle.promises.proofs.PickMoves.{taken-moves-one}
 use Rattle.promises.proofs.Taken.{Accepted, along-after}
 
 -- a byte of sector k stays
@@ -34,34 +41,44 @@ sector-stays d k (p ∷ ps) s none j h =
     (λ w. none .0 (w .0) (omega (arith, w .1 .1)))
     (λ o. no-memory (o .1 .0))
 
--- the data that a step moves, byte by byte
-module _ (r : Record) (s : Store) where
-  getD-data : (j : ℕ) → j < sectorBytes → getD (dataOf r s) j 0 ≡ getD (s memory) (inMemory r + j) 0
-  getD-data j h = getD-take sectorBytes (drop (inMemory r) (s memory)) j 0 h ∙ getD-drop (inMemory r) (s memory) j 0
+-- ---- ranges that are disjoint
 
-  length-data : inMemory r + sectorBytes ≤ length (s memory) → length (dataOf r s) ≡ sectorBytes
-  length-data h = simp (length-take, length-drop) (omega arith)
+-- byte v of the data lies in one of its ranges
+byte-lies : (rs : List Range) (v : ℕ) → v < bytesIn rs → SomeOf (λ y. Within (byteAt rs v) (y .from) (y .many)) rs
+byte-lies [] v h = absurd (not-suc-le-zero h)
+byte-lies (x ∷ rs) v h = go (means-lt v (x .many)) (byte-lies rs (v - x .many))
+  where
+    go : {b : Bool} → Means (v < x .many) b → (v - x .many < bytesIn rs → SomeOf (λ y. Within (byteAt rs (v - x .many)) (y .from) (y .many)) rs)
+        → SomeOf (λ y. Within (cond b (x .from + v) (byteAt rs (v - x .many))) (y .from) (y .many)) (x ∷ rs)
+    go (holds l) rest = inl (omega arith, omega arith)
+    go (fails n) rest = inr (rest (omega arith))
 
-same-data : (r w : Record) (s u : Store)
-    → inMemory r + sectorBytes ≤ length (s memory)
-    → inMemory w + sectorBytes ≤ length (u memory)
-    → ((j : ℕ) → j < sectorBytes → getD (s memory) (inMemory r + j) 0 ≡ getD (u memory) (inMemory w + j) 0)
-    → dataOf r s ≡ dataOf w u
-same-data r w s u fits fits′ bytes =
-    ext-getD 0 (dataOf r s) (dataOf w u) (length-data r s fits ∙ sym (length-data w u fits′))
-    (λ j h. let k : j < sectorBytes = rw (length-data r s fits) at h in getD-data r s j k ∙ bytes j k ∙ sym (getD-data w u j k))
+one-place : (rs : List Range) → Disjoint rs → (i j : ℕ) → i < j → j < bytesIn rs → byteAt rs j ≢ byteAt rs i
+one-place [] d i j h l = absurd (not-suc-le-zero l)
+one-place (x ∷ rs) d i j h l = go (means-lt i (x .many)) (means-lt j (x .many)) (one-place rs (d .1) (i - x .many) (j - x .many)) (byte-lies rs (j - x .many))
+  where
+    go : {a b : Bool} → Means (i < x .many) a → Means (j < x .many) b
+        → (i - x .many < j - x .many → j - x .many < bytesIn rs → byteAt rs (j - x .many) ≢ byteAt rs (i - x .many))
+        → (j - x .many < bytesIn rs → SomeOf (λ y. Within (byteAt rs (j - x .many)) (y .from) (y .many)) rs)
+        → cond b (x .from + j) (byteAt rs (j - x .many)) ≢ cond a (x .from + i) (byteAt rs (i - x .many))
+    go (holds p) (holds q) rest lies e = omega arith
+    go (holds p) (fails q) rest lies e = d .0 (byteAt rs (j - x .many)) (omega (arith, e), omega (arith, e)) (lies (omega arith))
+    go (fails p) (holds q) rest lies e = p (omega arith)
+    go (fails p) (fails q) rest lies e = rest (omega arith) (omega arith) e
+
+pub disjoint-suffices : DisjointSuffices
+disjoint-suffices r d whole i j h l = one-place (dataBytes r) d (sectorBytes * r .taken + i) (sectorBytes * r .taken + j) (omega arith) (omega arith)
+
+-- ---- written and read back
 
 pub written-then-read : WrittenThenRead
-written-then-read d n before w between r after s s′ h writes reads same spares apart =
+written-then-read d n before w between r after s s′ h writes reads same spares apart once j k =
     let s₁ = stepsAt d before s in
     let s₂ = stepsAt d between (stepAt d w s₁) in
     let from-w = along-after d (Accepted d n) before (w ∷ (between ++ (r ∷ after))) s (h .accepted) in
     let from-r = along-after d (Accepted d n) between (r ∷ after) (stepAt d w s₁) (from-w .1) in
     let written = taken-moves-one d n w s₁ (from-w .0) .moved in
     let back = taken-moves-one d n r s₂ (from-r .0) .moved in
-    same-data (commandAt s₂ r) (commandAt s₁ w) (stepAt d r s₂ .store) (s₁ .store)
-    (rw (back .sizes memory) (data-in d (commandAt s₂ r) (s₂ .store) (may-step d n r s₂ (from-r .0)) (inl reads) .0))
-    (data-in d (commandAt s₁ w) (s₁ .store) (may-step d n w s₁ (from-w .0)) (inr writes) .0)
-    (λ j k. back .fetched reads j k (apart j k)
+    back .fetched reads j k (λ i l m. once j i l m) (apart j k)
     ∙ rw same (sector-stays d (sectorOf (commandAt s₁ w)) between (stepAt d w s₁) spares j k)
-    ∙ written .kept writes j k)
+    ∙ written .kept writes j k

@@ -16,4 +16,5 @@ pub mod Closing
 pub mod PickMoves
 pub mod Taken
 pub mod WrittenThenRead
+pub mod OneRange
 pub mod Example

@@ -20,9 +20,11 @@ pub record OneStepMore (r r′ : Record) : Type 0 where
   pub iopb : r′ .iopb ≡ r .iopb
   pub address : r′ .address ≡ r .address
   pub sector : r′ .sector ≡ r .sector
+  pub ranges : r′ .ranges ≡ r .ranges
   pub count : r′ .count ≡ r .count
   pub byte0 : r′ .byte0 ≡ r .byte0
   pub code : r′ .code ≡ r .code
+  pub list : r′ .list ≡ r .list
 
 -- such a step at place p, and the table stays but for the steps taken of that record
 pub record PickMoves (d : Drive) (p : ℕ) (s s′ : State) : Type 0 where

@@ -74,7 +74,7 @@ pub record Filled (m : List ℕ) (d : Drive) (start : ℕ) (t : List Record) (w 
   pub commands : w .commands ≡ suc k
   pub records : (j : ℕ)
       → j ≤ k
-      → getD t′ j noRecord ≡ recordOf (copiedAt m (reached m start j)) (reached m start j) d (length m)
+      → getD t′ j noRecord ≡ recordOf (copiedAt m (reached m start j)) (reached m start j) d m
   pub others : (j : ℕ) → k < j → getD t′ j noRecord ≡ getD t j noRecord
   pub size : length t′ ≡ length t
 

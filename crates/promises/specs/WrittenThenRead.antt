@@ -1,18 +1,21 @@
 -- A sector that is written and then read back is equal (Demand 2). Along steps taken one after another, as those of any run, one at place w
--- writes a sector, steps follow of which none writes that sector, and then one at place r reads it: the 512 bytes that come into memory are
--- those that the write took.
+-- writes a sector, steps follow of which none writes that sector, and then one at place r reads it: each of the 512 bytes that come into
+-- memory is the one that the write took. Either may have a link list; the read must not lay two bytes of the sector in one place.
 use mathlib.Core.Path.{_≡_}
 use mathlib.Core.Logic.{_≢_}
-use Prim.Native.Nat.{ℕ, _+_, _<_}
-use mathlib.Core.List.{List, _∷_, _++_}
-use lib.ListN.{take, drop}
+use Prim.Native.Nat.{ℕ, _+_, _*_, _≤_, _<_}
+use mathlib.Core.List.{List, [], _∷_, _++_}
+use lib.ListN.{getD}
 use Rattle.meaning.specs.declared.Drive.{Drive}
 use Rattle.meaning.specs.declared.Record.{Record}
-use Rattle.meaning.specs.Store.{memory, Store}
+use Rattle.meaning.specs.Store.{memory}
 use Rattle.meaning.specs.State.{State}
 use Rattle.meaning.specs.Sectors.{sectorBytes}
+use Rattle.meaning.specs.Ranges.{Range}
+use Rattle.meaning.specs.Links.{bytesIn}
+use Rattle.meaning.specs.Touch.{dataBytes}
 use Rattle.meaning.specs.Pick.{stepAt}
-use Rattle.meaning.specs.Conditions.{Reads, Writes}
+use Rattle.meaning.specs.Conditions.{Within, SomeOf, Reads, Writes}
 use Rattle.promises.specs.StepMoves.{sectorOf, inMemory, Posted}
 use Rattle.promises.specs.PickMoves.{commandAt}
 use Rattle.promises.specs.Taken.{stepsAt, Along, Taken}
@@ -21,9 +24,18 @@ use Rattle.promises.specs.Taken.{stepsAt, Along, Taken}
 abbrev pub Spares : ℕ → State → ℕ → Type 0
 Spares k s p = Writes (commandAt s p) → sectorOf (commandAt s p) ≢ k
 
--- the 512 bytes of memory that a step of r moves
-abbrev pub dataOf : Record → Store → List ℕ
-dataOf r s = take sectorBytes (drop (inMemory r) (s memory))
+-- no two bytes of the sector that a step of r moves have one place in memory
+abbrev pub OnePlace : Record → Type 0
+OnePlace r = (i j : ℕ) → i < j → j < sectorBytes → inMemory r j ≢ inMemory r i
+
+-- no byte of memory lies in two of some ranges
+abbrev pub Disjoint : List Range → Type 0
+Disjoint [] = Unit {0}
+Disjoint (x ∷ xs) = ((a : ℕ) → Within a (x .from) (x .many) → ¬ SomeOf (λ y. Within a (y .from) (y .many)) xs) × Disjoint xs
+
+-- a command whose ranges are disjoint lays none so; one without a list has one range, so it is such a command
+abbrev pub DisjointSuffices : Type 0
+DisjointSuffices = (r : Record) → Disjoint (dataBytes r) → sectorBytes * r .taken + sectorBytes ≤ bytesIn (dataBytes r) → OnePlace r
 
 -- s₁ is the state in which w writes, s₂ that in which r reads
 abbrev pub Again : Drive → State → ℕ → List ℕ → State → ℕ → Type 0
@@ -33,8 +45,11 @@ Again d s₁ w between s₂ r =
     → sectorOf (commandAt s₂ r) ≡ sectorOf (commandAt s₁ w)
     → Along d (Spares (sectorOf (commandAt s₁ w))) between (stepAt d w s₁)
     -- no status byte lies in the data of the read
-    → ((j : ℕ) → j < sectorBytes → ¬ Posted (commandAt s₂ r) memory (inMemory (commandAt s₂ r) + j))
-    → dataOf (commandAt s₂ r) (stepAt d r s₂ .store) ≡ dataOf (commandAt s₁ w) (s₁ .store)
+    → ((j : ℕ) → j < sectorBytes → ¬ Posted (commandAt s₂ r) memory (inMemory (commandAt s₂ r) j))
+    → OnePlace (commandAt s₂ r)
+    → (j : ℕ)
+    → j < sectorBytes
+    → getD (stepAt d r s₂ .store memory) (inMemory (commandAt s₂ r) j) 0 ≡ getD (s₁ .store memory) (inMemory (commandAt s₁ w) j) 0
 
 abbrev pub WrittenThenRead : Type 0
 WrittenThenRead =

@@ -26,7 +26,7 @@ fn main() -> ExitCode {
     let mut rows = Vec::new();
     for work in all() {
         eprintln!("speed: {} ..", work.name);
-        let times = measure(work.count, &work.sides);
+        let times = measure(work.shape, &work.sides);
         rows.push(Row { work, times });
     }
     print!("{}", table(&rows));

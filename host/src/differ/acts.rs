@@ -125,16 +125,19 @@ fn unfinished_place(play: &mut Play) -> usize {
     play.rng.one_of(&open)
 }
 
-/// The host writes in its own memory after the walk: the table has copied what it needs.
+/// The host writes in its own memory after the walk, also over a link list: the table has copied what
+/// it needs.
 fn host_writes(play: &mut Play) {
     let memory = play.sides.ground().memory.len();
     if memory < 30 {
         return;
     }
-    let at = match play.chain.blocks.len() as u64 {
-        0 => play.rng.between(0, memory as u64 - 30),
-        blocks => play.chain.blocks[play.rng.below(blocks) as usize].0,
-    };
+    let blocks = play.chain.blocks.iter().map(|(at, _)| *at);
+    let lists = play.chain.lists.iter().map(|(at, _)| *at);
+    let places: Vec<u64> = blocks.chain(lists).collect();
+    let last = memory as u64 - 30;
+    let at = if places.is_empty() { play.rng.between(0, last) } else { play.rng.one_of(&places) };
+    let at = at.min(last);
     let bytes = play.rng.bytes(30);
     play.say(|| format!("the host writes at {at}: {bytes:02X?}"));
     play.sides.put(at as usize, &bytes);

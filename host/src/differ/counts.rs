@@ -1,9 +1,9 @@
-//! How often each number and each code came up, and each thing that the last head's own maximum
-//! changes, so that one can see that all were reached.
+//! How often each number and each code came up, and each thing that the last head's own maximum or a
+//! link list changes, so that one can see that all were reached.
 
 use crate::differ::call::{Call, Reply};
-use crate::differ::last_head;
 use crate::differ::sides::RECORDS;
+use crate::differ::{last_head, list_rows};
 use second::board::Board;
 use second::record::Record;
 use std::collections::BTreeMap;
@@ -19,8 +19,8 @@ const NUMBERS: [(&str, &[u8]); 7] = [
     ("view", &[0, 2, 3]),
 ];
 
-/// The codes, in the order of document 01.
-const CODES: [u8; 10] = [0x1E, 0x14, 0x42, 0x13, 0x10, 0x11, 0x12, 0x90, 0x4B, 0x00];
+/// The codes, in the order of document 01 and, after 90, of ticket 2.
+const CODES: [u8; 12] = [0x1E, 0x14, 0x42, 0x13, 0x10, 0x11, 0x12, 0x90, 0x1C, 0x1F, 0x4B, 0x00];
 
 pub struct Counts {
     rows: BTreeMap<String, u64>,
@@ -42,7 +42,13 @@ fn all_rows() -> Vec<String> {
         .iter()
         .flat_map(|(word, numbers)| numbers.iter().map(|number| number_row(word, *number)));
     let runs = ["run finished", "run not finished", "pick refused in a list"].map(String::from);
-    numbers.chain(CODES.map(code_row)).chain(runs).chain(last_head::all_rows()).collect()
+    let lists = list_rows::ROWS.map(String::from);
+    numbers
+        .chain(CODES.map(code_row))
+        .chain(runs)
+        .chain(last_head::all_rows())
+        .chain(lists)
+        .collect()
 }
 
 impl Default for Counts {
@@ -59,6 +65,9 @@ impl Counts {
         self.add(number_row(call.word(), reply.number()), 1);
         for row in last_head::rows(call, reply, ground, table) {
             self.add(row, 1);
+        }
+        for row in list_rows::rows(call, reply, ground, table) {
+            self.add(row.to_string(), 1);
         }
         match reply {
             Reply::Walked(walked) => {

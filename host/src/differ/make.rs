@@ -4,6 +4,7 @@ use crate::boards::Board;
 use crate::differ::acts::{act, look_around, random_sector, walk};
 use crate::differ::call::Call;
 use crate::differ::counts::Counts;
+use crate::differ::lists::give_list;
 use crate::differ::play::{Play, Played};
 use second::board::SECTOR_BYTES;
 use second::makers::chain::random_chain;
@@ -47,6 +48,10 @@ fn lay_chain(play: &mut Play) {
         }
     }
     play.chain = random_chain(&mut play.rng, play.sides.ground());
+    for (at, bytes) in play.chain.lists.clone() {
+        play.say(|| format!("link list at {at}: {bytes:02X?}"));
+        play.sides.put(at as usize, &bytes);
+    }
     for (at, block) in play.chain.blocks.clone() {
         play.say(|| format!("IOPB at {at}: {:02X?}", block.bytes));
         play.sides.put(at as usize, &block.bytes);
@@ -129,7 +134,11 @@ fn random_record(play: &mut Play) -> Record {
         count: count as u16,
         byte0: rng.byte() & 0xF0 | command,
         code: if (command == 1 && drive.protected) || rng.once_in(6) { 0x90 } else { 0 },
+        ..Record::default()
     };
+    if rng.percent(45) {
+        give_list(rng, memory, &mut record);
+    }
     if !record.is_transfer() && rng.percent(50) {
         // Nothing of these is looked at where nothing moves.
         (record.data, record.sector) = (rng.next() as u32, rng.next() as u32);

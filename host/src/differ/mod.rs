@@ -5,6 +5,8 @@ pub mod acts;
 pub mod call;
 pub mod counts;
 pub mod last_head;
+pub mod list_rows;
+pub mod lists;
 pub mod make;
 pub mod play;
 pub mod sides;

@@ -28,7 +28,7 @@ impl<'a> Play<'a> {
         Play {
             rng,
             sides: Sides::new(board, second::board::Board::default()),
-            chain: Chain { start: 0, blocks: Vec::new() },
+            chain: Chain::default(),
             commands: 0,
             counts,
             calls: 0,

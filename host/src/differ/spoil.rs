@@ -3,27 +3,26 @@
 
 use crate::differ::acts::{call_on_table, random_sector};
 use crate::differ::call::Call;
+use crate::differ::lists::{listed_place, spoil_list};
 use crate::differ::play::{Play, Played};
 use second::board::{IMAGE_LIMIT, SECTOR_BYTES};
 use second::drive::Drive;
 use second::makers::ground::other_drive;
 use second::makers::rng::Rng;
 use second::record::Record;
-use second::trial::line::{field_of, set_field};
-
-/// The most that each of the seven fields of a record may be, in the order of docs/CASES.md.
-const FIELD_MOST: [u64; 7] =
-    [0xFFFF_FFFF, 0xFFFF_FFFF, 0xFFFF_FFFF, 0xFFFF_FFFF, 0xFFFF, 0xFF, 0xFF];
+use second::trial::line::{field_of, set_field, FIELD_MOST};
 
 pub fn spoil_and_call(play: &mut Play) -> Played {
-    match play.rng.below(10) {
-        0 => spoil_commands(play),
-        1 => spoil_protection(play),
+    let listed = listed_place(play);
+    match (play.rng.below(20), listed) {
+        (0 | 1, _) => spoil_commands(play),
+        (2 | 3, _) => spoil_protection(play),
+        (4..=12, Some(place)) => spoil_list(play, place),
         _ => spoil_field(play),
     }
 }
 
-fn some_calls(play: &mut Play) -> Played {
+pub fn some_calls(play: &mut Play) -> Played {
     for _ in 0..play.rng.between(1, 3) {
         call_on_table(play)?;
     }
@@ -62,7 +61,7 @@ fn spoil_field(play: &mut Play) -> Played {
     let records = play.commands.min(32) + usize::from(play.rng.once_in(8));
     let place = play.rng.below(records.max(1) as u64) as usize;
     let right = play.sides.table()[place];
-    let field = play.rng.one_of(&[0, 0, 0, 1, 2, 3, 3, 4, 4, 5, 6]);
+    let field = play.rng.one_of(&[0, 0, 0, 1, 2, 3, 3, 4, 4, 5, 6, 7]);
     let value = wrong_value(play, &right, field);
     let mut wrong = right;
     set_field(&mut wrong, field, value);
@@ -98,7 +97,9 @@ fn wrong_value(play: &mut Play, record: &Record, field: u64) -> u64 {
         3 => beside(rng, record.steps()),
         4 => wrong_count(rng, memory, sectors, record),
         5 => u64::from(record.byte0 & 0xF0) | rng.one_of(&[0, 1, 1, 2, 2, 3, 7, 15]),
-        _ => rng.one_of(&[0, 0, 0x10, 0x14, 0x90, 0xFF]),
+        6 => rng.one_of(&[0, 0, 0x10, 0x14, 0x90, 0xFF]),
+        // ranges where there were none, or none where there were some
+        _ => rng.one_of(&[0, 1, 2, 32, 33, 0xFFFF_FFFF]),
     };
     value.min(FIELD_MOST[field as usize])
 }

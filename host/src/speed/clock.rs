@@ -1,7 +1,7 @@
 //! The clock. All sides of a comparison are timed in turn, batch by batch, on the same ground, so
 //! that what else the machine does meets them alike.
 
-use crate::speed::ground::Ground;
+use crate::speed::ground::{Ground, Shape};
 use std::time::{Duration, Instant};
 
 /// One side: its name, one batch of its work, and how many units a batch has.
@@ -53,11 +53,11 @@ fn at_part(values: &[f64], part: f64) -> f64 {
 /// Times all sides, in rounds. Each round has a ground of its own, and all of them stay to the end,
 /// so that each lies elsewhere: with one ground for all, the ratio at 128 sectors a command moved by
 /// a twentieth from one run of the program to the next.
-pub fn measure(count: usize, sides: &[Side]) -> Vec<Times> {
+pub fn measure(shape: Shape, sides: &[Side]) -> Vec<Times> {
     let mut times: Vec<Times> = sides.iter().map(|_| Times(Vec::new())).collect();
     let mut grounds: Vec<Ground> = Vec::new();
     for _ in 0..ROUNDS {
-        let mut ground = Ground::new(count);
+        let mut ground = Ground::new(shape);
         for (time, fastest) in times.iter_mut().zip(round(&mut ground, sides)) {
             time.0.push(fastest);
         }

@@ -139,9 +139,7 @@ const PROFILE: &str = "";
 
 /// What is to be known of the row of 128 sectors, on the code as it is measured: written by hand, like
 /// the profile.
-const EDGE: &str =
-    "This row lies at the edge of its goal: five runs in a row gave 1.03 to 1.05, of which \
-                    four met it. ";
+const EDGE: &str = "";
 
 /// By how much goals are missed, and what a profile shows of it.
 fn misses(rows: &[Row]) -> String {
@@ -175,6 +173,10 @@ pub fn page(rows: &[Row], counted: &[Counted]) -> String {
          lies over all IOPBs, so the next command reads status bytes that were posted just before: ordinary Rust without its \
          close takes as long there as the copy, and with it 3 to 5 % longer. {EDGE}Places in turn: all picks of a place \
          before those of the next, since commands of 128 sectors all wait for each other.\n\
+         - The ranges of a link list are of one length, and fill an area of the command's own, the last of the area \
+         first; the copy moves the whole area at once. At 8 sectors in 4 ranges they have 1,024 bytes each, at 1 sector in \
+         32 ranges 16 bytes. In the row with each list's ranges between the others', no two commands share a byte, but \
+         only their ranges tell it, pair by pair; that row has no goal.\n\
          - \"Ordinary Rust\" is host/src/ordinary.rs: the same replies with no proofs, written for speed as far as it \
          stays easy to read; it says what faster form was left out. The second program is second/, which is plain and \
          slow on purpose.\n\

@@ -27,7 +27,7 @@ pub fn declared(file: &str) -> Declared {
         let (again, after) = after.split_once(';').expect("a typedef ends");
         assert_eq!(name, again.trim(), "a struct and its typedef have one name");
         let fields = fields.split(';').map(one_line).filter(|field| !field.is_empty());
-        let fields = fields.map(|field| name_and_type(&field)).collect();
+        let fields = fields.map(|field| field_of(file, &field)).collect();
         declared.structs.insert(struct_name(name).expect("our structs have our prefix"), fields);
         rest = after;
     }
@@ -66,6 +66,25 @@ fn read_functions(text: &str, declared: &mut Declared) {
         let before = declared.functions.insert(name.clone(), (parameters, result));
         assert!(before.is_none(), "{name} is declared twice");
     }
+}
+
+/// A field of a struct. An array, `TYPE name[CONSTANT]`, has as many elements as the header says of
+/// that constant.
+fn field_of(file: &str, text: &str) -> (String, String) {
+    let Some((text, rest)) = text.split_once('[') else {
+        return name_and_type(text);
+    };
+    let (name, element) = name_and_type(text);
+    let length = constant(file, rest.trim_end_matches(']'));
+    (name, format!("[{element}; {length}]"))
+}
+
+/// The value of a constant of the header.
+fn constant(file: &str, name: &str) -> usize {
+    let found = file.split_once(&format!("{name} = "));
+    let (_, value) = found.unwrap_or_else(|| panic!("the header has no constant {name}"));
+    let digits = value.find(|letter: char| !letter.is_ascii_digit()).unwrap_or(value.len());
+    value[..digits].parse().unwrap_or_else(|_| panic!("{name} is no decimal number"))
 }
 
 /// A declared `TYPE name`, as a name and a type of Rust.

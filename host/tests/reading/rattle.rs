@@ -19,8 +19,8 @@ pub fn declared(files: &[String]) -> Declared {
     Declared { structs, functions }
 }
 
-/// Takes a struct among those that are exported, with the structs of its fields; a type that is no
-/// struct is passed over.
+/// Takes a struct among those that are exported, with the structs of its fields and of the elements
+/// of arrays among these; a type that is no struct is passed over.
 fn export(
     kind: &str,
     all: &BTreeMap<String, (Named, bool)>,
@@ -32,8 +32,14 @@ fn export(
     assert!(repr_c, "struct {kind} is exported, and has no #[repr(C)]");
     structs.insert(kind.to_string(), fields.clone());
     for (_, field) in fields {
-        export(field, all, structs);
+        export(element_of(field), all, structs);
     }
+}
+
+/// The type of the elements, where a type is an array; else the type itself.
+fn element_of(kind: &str) -> &str {
+    let inside = kind.strip_prefix('[').and_then(|rest| rest.split_once(';'));
+    inside.map_or(kind, |(element, _)| element)
 }
 
 /// Every struct with named fields, and whether it is marked #[repr(C)].

@@ -78,6 +78,13 @@ impl Block {
         self
     }
 
+    /// SGM set, and a link list of so many elements at this address. The three
+    /// ignored bits of byte 6 stay as they are.
+    pub fn list(mut self, address: u64, elements: u64) -> Block {
+        self.bytes[0x06] = (self.bytes[0x06] & 0x07) | ((elements % 32) << 3) as u8;
+        self.sgm().data(address)
+    }
+
     pub fn command(mut self, command: u8) -> Block {
         self.bytes[0x00] = (self.bytes[0x00] & 0xF0) | command;
         self

@@ -5,9 +5,11 @@ use crate::board::SECTOR_BYTES;
 use crate::makers::calls::{act, ask_places, call_on_table, look_around, random_address, walk};
 use crate::makers::chain::{random_chain, Chain};
 use crate::makers::ground::{any_drive, ground, limit_ground};
+use crate::makers::random_lists::cut;
 use crate::makers::rng::Rng;
 use crate::makers::script::Script;
 use crate::makers::ALL_32_BITS;
+use crate::range::Range;
 use crate::record::Record;
 use crate::trial::line::Line;
 
@@ -65,6 +67,9 @@ fn lay(rng: &mut Rng, script: &mut Script, chain: &Chain) {
             script.say(Line::Disk { offset: rng.between(0, image - 3), bytes: rng.bytes(3) });
         }
     }
+    for (address, bytes) in &chain.lists {
+        script.put(*address, bytes);
+    }
     for (address, block) in &chain.blocks {
         script.block(*address, *block);
     }
@@ -93,7 +98,7 @@ fn table_case(rng: &mut Rng, script: &mut Script) {
         script.record(place, record);
     }
     script.say(Line::Commands(records));
-    let chain = Chain { start: 0, blocks: Vec::new() };
+    let chain = Chain::default();
     for _ in 0..rng.between(2, 6) {
         act(rng, script, &chain);
     }
@@ -118,7 +123,11 @@ fn random_record(rng: &mut Rng, script: &Script) -> Record {
         count: count as u16,
         byte0: (rng.byte() & 0xF0) | command,
         code: if protected_write || rng.once_in(6) { 0x90 } else { 0 },
+        ..Record::default()
     };
+    if rng.percent(45) {
+        give_ranges(rng, memory, &mut record);
+    }
     if !record.is_transfer() && rng.percent(50) {
         // Nothing of these is looked at where nothing moves.
         (record.data, record.sector) = (rng.next() as u32, rng.next() as u32);
@@ -130,6 +139,23 @@ fn random_record(rng: &mut Rng, script: &Script) -> Record {
     record
 }
 
+/// Gives a record ranges that its bytes fit in, at odd addresses too. Those
+/// past the last are anything, and so is its data address.
+fn give_ranges(rng: &mut Rng, memory: u64, record: &mut Record) {
+    let parts = rng.one_of(&[1, 2, 2, 3, 4, 5, 7, 32]);
+    let lengths = cut(rng, record.data_bytes(), parts);
+    record.ranges = lengths.len() as u32;
+    for (range, length) in record.list.iter_mut().zip(lengths) {
+        let address = rng.between(0, memory.saturating_sub(length));
+        *range = Range { address: address as u32, length: length as u32 };
+    }
+    if parts < 32 && rng.once_in(4) {
+        let junk = Range { address: rng.next() as u32, length: rng.below(65_536) as u32 };
+        record.list[parts as usize] = junk;
+    }
+    record.data = rng.next() as u32;
+}
+
 /// Fields and views over random bytes in a small memory.
 fn view_case(rng: &mut Rng, script: &mut Script) {
     let length = rng.between(0, 100);
@@ -138,7 +164,7 @@ fn view_case(rng: &mut Rng, script: &mut Script) {
         let bytes = rng.between(1, length.min(64));
         script.say(Line::Put { address: rng.between(0, length - bytes), bytes: rng.bytes(bytes) });
     }
-    let chain = Chain { start: 0, blocks: Vec::new() };
+    let chain = Chain::default();
     for _ in 0..rng.between(3, 10) {
         let near = random_address(rng, script, &chain);
         let address = if rng.percent(60) { rng.below(length + 2) } else { near };

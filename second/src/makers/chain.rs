@@ -1,37 +1,25 @@
-//! Random chains: where the IOPBs lie, what each asks, how they are linked.
-//! Data and sectors are laid near those of other commands, one byte or one
-//! sector to either side, since that is where conflicts begin and end.
+//! Random chains: where the IOPBs and their link lists lie, what each command
+//! asks, how they are linked.
 
 use crate::board::{Board, SECTOR_BYTES};
 use crate::drive::Drive;
 use crate::iopb::IOPB_BYTES;
+use crate::link_list::ELEMENT_BYTES;
 use crate::makers::block::Block;
+use crate::makers::lay::{data_address, first_sector, Lay, Transfer};
+use crate::makers::random_lists::{list_address, list_fault, random_ranges};
 use crate::makers::rng::Rng;
+use crate::makers::script::element_bytes;
 use crate::place::{counted_to, Place};
+use crate::range::Range;
 
-/// A chain ready to be put in memory.
-#[derive(Clone, Debug)]
+/// A chain ready to be put in memory: the bytes of its lists first, then its
+/// IOPBs.
+#[derive(Clone, Debug, Default)]
 pub struct Chain {
     pub start: u64,
+    pub lists: Vec<(u64, Vec<u8>)>,
     pub blocks: Vec<(u64, Block)>,
-}
-
-/// What one transfer asks, before anything is spoiled.
-#[derive(Clone, Copy, Debug)]
-struct Transfer {
-    data: u64,
-    sector: u64,
-    count: u64,
-}
-
-/// What the transfers of a chain are laid against. `near` is how many in a
-/// hundred are laid beside or over another command's things.
-struct Lay<'a> {
-    memory: u64,
-    sectors: u64,
-    drive: &'a Drive,
-    addresses: &'a [u64],
-    near: u64,
 }
 
 /// A random chain for a board. In a memory too small for an IOPB there is
@@ -40,12 +28,29 @@ pub fn random_chain(rng: &mut Rng, board: &Board) -> Chain {
     let number = chain_length(rng);
     let addresses = places(rng, board.memory_bytes(), number);
     if addresses.is_empty() {
-        return Chain { start: rng.below(8), blocks: Vec::new() };
+        return Chain { start: rng.below(8), ..Chain::default() };
     }
-    let mut blocks = commands(rng, board, &addresses);
+    // About half of the chains have commands with lists.
+    let lists = if rng.percent(52) { rng.one_of(&[25, 50, 90]) } else { 0 };
+    let (mut blocks, transfers) = commands(rng, board, &addresses, lists);
     link(rng, board, &addresses, &mut blocks);
-    let start = addresses[0];
-    Chain { start, blocks: addresses.into_iter().zip(blocks).collect() }
+    Chain {
+        start: addresses[0],
+        lists: transfers.iter().filter_map(|transfer| list_bytes(board, transfer)).collect(),
+        blocks: addresses.into_iter().zip(blocks).collect(),
+    }
+}
+
+/// The bytes of a transfer's list that are in memory, and where they begin.
+fn list_bytes(board: &Board, transfer: &Transfer) -> Option<(u64, Vec<u8>)> {
+    let at = transfer.list?;
+    let inside = board.memory_bytes().saturating_sub(at) as usize;
+    let bytes: Vec<u8> = transfer.ranges.iter().flat_map(element_bytes).take(inside).collect();
+    if bytes.is_empty() {
+        None
+    } else {
+        Some((at, bytes))
+    }
 }
 
 /// Mostly short, but every length from 1 to 32 comes up.
@@ -86,8 +91,14 @@ fn places(rng: &mut Rng, memory: u64, wanted: u64) -> Vec<u64> {
     addresses
 }
 
-/// The commands at these addresses, not yet linked.
-pub fn commands(rng: &mut Rng, board: &Board, addresses: &[u64]) -> Vec<Block> {
+/// The commands at these addresses, not yet linked, and what they ask; `lists`
+/// in a hundred have a link list.
+pub fn commands(
+    rng: &mut Rng,
+    board: &Board,
+    addresses: &[u64],
+    lists: u64,
+) -> (Vec<Block>, Vec<Transfer>) {
     let mut earlier: Vec<Transfer> = Vec::new();
     let mut blocks = Vec::new();
     // Some chains are nearly all spoiled, most hardly at all; some have their
@@ -99,9 +110,13 @@ pub fn commands(rng: &mut Rng, board: &Board, addresses: &[u64]) -> Vec<Block> {
         drive: &board.drive,
         addresses,
         near: rng.one_of(&[0, 25, 60, 90]),
+        lists,
     };
     for _ in addresses {
-        let transfer = transfer(rng, &lay, &earlier);
+        let mut transfer = transfer(rng, &lay, &earlier);
+        if transfer.list.is_some() && rng.percent(faults) {
+            list_fault(rng, lay.memory, &mut transfer);
+        }
         let command = rng.one_of(&[0, 1, 1, 1, 1, 2, 2, 2, 2]);
         let mut block = block_for(rng, board, command, &transfer);
         if rng.percent(faults) {
@@ -112,7 +127,7 @@ pub fn commands(rng: &mut Rng, board: &Board, addresses: &[u64]) -> Vec<Block> {
         blocks.push(block);
         earlier.push(transfer);
     }
-    blocks
+    (blocks, earlier)
 }
 
 fn block_for(rng: &mut Rng, board: &Board, command: u8, transfer: &Transfer) -> Block {
@@ -120,11 +135,16 @@ fn block_for(rng: &mut Rng, board: &Board, command: u8, transfer: &Transfer) -> 
     let Place { cylinder, head, sector } = place.expect("every transfer begins on the drive");
     // With CHEN clear the next address is not looked at: it may be anything.
     let next = rng.next() % (1 << 32);
-    Block::random(rng, command)
+    let block = Block::random(rng, command)
         .count(transfer.count)
         .at(cylinder, head, sector)
-        .data(transfer.data)
-        .next_address(next)
+        .next_address(next);
+    match transfer.list {
+        // A No Operation has no list: SGM would give it 14H.
+        Some(at) if command != 0 || rng.once_in(8) => block.list(at, transfer.ranges.len() as u64),
+        Some(at) => block.data(at),
+        None => block.data(u64::from(transfer.ranges[0].address)),
+    }
 }
 
 fn transfer(rng: &mut Rng, lay: &Lay, earlier: &[Transfer]) -> Transfer {
@@ -135,82 +155,29 @@ fn transfer(rng: &mut Rng, lay: &Lay, earlier: &[Transfer]) -> Transfer {
         77..=96 => rng.between(1, 8),
         _ => rng.between(1, fit),
     };
-    let count = wanted.min(fit);
+    let listed = rng.percent(lay.lists);
+    // Ranges may overlap, so a list can move more than memory holds.
+    let most = if listed && rng.once_in(4) { lay.sectors } else { fit };
+    let count = wanted.min(most);
     let sector = first_sector(rng, lay, count, earlier);
-    let data = data_address(rng, lay, count * SECTOR_BYTES, earlier);
-    Transfer { data, sector, count }
-}
-
-fn first_sector(rng: &mut Rng, lay: &Lay, count: u64, earlier: &[Transfer]) -> u64 {
-    let last = lay.sectors - count.min(lay.sectors);
-    if earlier.is_empty() || !rng.percent(lay.near) {
-        return match rng.below(6) {
-            0 => last,
-            1 if lay.drive.last_head_shorter() => over_an_end(rng, lay.drive, count).min(last),
-            _ => rng.between(0, last),
-        };
+    let bytes = count * SECTOR_BYTES;
+    if listed {
+        let ranges = random_ranges(rng, lay, bytes, earlier);
+        let list = list_address(rng, lay, &ranges, &lists_of(earlier));
+        return Transfer { sector, count, ranges, list: Some(list) };
     }
-    let other = rng.one_of(earlier);
-    let end = other.sector + other.count;
-    let before = other.sector.saturating_sub(count);
-    let near = [other.sector, other.sector, end - 1, end, before, before + 1];
-    rng.one_of(&near).min(last)
+    let address = data_address(rng, lay, bytes, earlier) as u32;
+    let ranges = vec![Range { address, length: bytes as u32 }];
+    Transfer { sector, count, ranges, list: None }
 }
 
-/// A first sector from which so many run up to the end of some head or, if
-/// they are more than one, mostly past it: onto the next head or cylinder.
-fn over_an_end(rng: &mut Rng, drive: &Drive, count: u64) -> u64 {
-    let cylinder = rng.below(drive.cylinders());
-    let head = if rng.percent(60) { drive.heads() - 1 } else { rng.below(drive.heads()) };
-    let end = drive.sector_number(cylinder, head, drive.sectors_of(head));
-    end.saturating_sub(rng.between(1, count))
-}
-
-fn data_address(rng: &mut Rng, lay: &Lay, bytes: u64, earlier: &[Transfer]) -> u64 {
-    let last = lay.memory.saturating_sub(bytes);
-    let address = if !rng.percent(lay.near) {
-        if rng.once_in(8) {
-            last
-        } else {
-            rng.between(0, last)
-        }
-    } else if earlier.is_empty() || rng.percent(45) {
-        near_status(rng, bytes, lay.addresses)
-    } else {
-        near_data(rng, bytes, earlier)
-    };
-    address.min(last)
-}
-
-/// Just beside, or over, the four status bytes of some IOPB of the chain.
-fn near_status(rng: &mut Rng, bytes: u64, addresses: &[u64]) -> u64 {
-    let status = rng.one_of(addresses);
-    let before = status.saturating_sub(bytes);
-    match rng.below(8) {
-        0 => status + 4,
-        1 => status + 3,
-        2 => status,
-        3 => before,
-        4 => before + 1,
-        5 => before + 4,
-        _ => status.saturating_sub(rng.below(bytes)),
-    }
-}
-
-/// Just beside, or over, the data of an earlier command.
-fn near_data(rng: &mut Rng, bytes: u64, earlier: &[Transfer]) -> u64 {
-    let other = rng.one_of(earlier);
-    let end = other.data + other.count * SECTOR_BYTES;
-    let before = other.data.saturating_sub(bytes);
-    match rng.below(8) {
-        0 | 1 => other.data,
-        2 => end,
-        3 => end - 1,
-        4 => before,
-        5 => before + 1,
-        6 => other.data + SECTOR_BYTES,
-        _ => other.data + rng.below(SECTOR_BYTES),
-    }
+/// Where the lists of these transfers lie.
+fn lists_of(transfers: &[Transfer]) -> Vec<Range> {
+    let lists = transfers.iter().filter_map(|transfer| {
+        let length = ELEMENT_BYTES as usize * transfer.ranges.len();
+        transfer.list.map(|at| Range { address: at as u32, length: length as u32 })
+    });
+    lists.collect()
 }
 
 /// Spoils one field, mostly just past its line.

@@ -1,11 +1,15 @@
 //! Random decks for the bench: many sound, and each common mistake too.
 //! The same decks are written as files and as cases.
 
-use crate::bench::{bench_board, DECK_RECORD};
+use crate::bench::{bench_board, BENCH_MEMORY, DECK_RECORD};
+use crate::board::SECTOR_BYTES;
+use crate::iopb::IOPB_BYTES;
 use crate::makers::block::Block;
 use crate::makers::chain::commands;
+use crate::makers::random_lists::cut;
 use crate::makers::rng::Rng;
-use crate::makers::script::Script;
+use crate::makers::script::{element_bytes, Script};
+use crate::range::Range;
 use crate::trial::line::Line;
 
 /// The n-th deck of a seed.
@@ -28,6 +32,9 @@ pub fn random_deck(seed: u64, n: u64) -> Vec<u8> {
         let at = rng.below(records) as usize;
         blocks[at] = blocks[at].next(other_end(&mut rng, records));
     }
+    if records < 32 && rng.percent(45) {
+        give_list(&mut rng, &mut blocks);
+    }
     let mut deck = deck_of(&blocks, protected);
     if rng.percent(22) {
         mistake(&mut rng, &mut deck);
@@ -48,9 +55,43 @@ pub fn deck_of(blocks: &[Block], protected: bool) -> Vec<u8> {
     deck
 }
 
+/// A record of a deck that holds these elements of a link list, which are at
+/// most four; of the fourth, the two low bytes of the address must be 0.
+pub fn list_block(list: &[Range]) -> Block {
+    let bytes: Vec<u8> = list.iter().flat_map(element_bytes).collect();
+    let room = bytes.len().min(IOPB_BYTES as usize);
+    let mut block = Block::of(&[]);
+    block.bytes[..room].copy_from_slice(&bytes[..room]);
+    block
+}
+
+/// Gives some command a list of at most three elements, in one more record;
+/// mostly a right one, if the command moves data.
+fn give_list(rng: &mut Rng, blocks: &mut Vec<Block>) {
+    let at = rng.below(blocks.len() as u64) as usize;
+    let count = if rng.once_in(4) { rng.between(1, 3) } else { 1 };
+    let parts = rng.between(1, 3);
+    let mut list = Vec::new();
+    for length in cut(rng, SECTOR_BYTES * count, parts) {
+        let last = BENCH_MEMORY as u64 - length;
+        let address = if rng.once_in(6) { last } else { rng.between(0, last) } / 2 * 2;
+        list.push(Range { address: address as u32, length: length as u32 });
+    }
+    let wrong = rng.below(parts) as usize;
+    match rng.below(12) {
+        0 => list[wrong].address |= 1,
+        1 => list[wrong].address = 0x1002,
+        2 => list[wrong].length ^= 1,
+        _ => {}
+    }
+    let address = (DECK_RECORD * blocks.len()) as u64 + rng.one_of(&[0, 0, 0, 0, 0, 8, 0xFC0]);
+    blocks[at] = blocks[at].count(count).list(address, parts);
+    blocks.push(list_block(&list));
+}
+
 fn sound_records(rng: &mut Rng, records: u64, protected: bool) -> Vec<Block> {
     let addresses: Vec<u64> = (0..records).map(|k| k * DECK_RECORD as u64).collect();
-    let mut blocks = commands(rng, &bench_board(protected), &addresses);
+    let (mut blocks, _) = commands(rng, &bench_board(protected), &addresses, 0);
     for k in 1..blocks.len() {
         blocks[k - 1] = blocks[k - 1].next(addresses[k]);
     }

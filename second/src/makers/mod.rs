@@ -8,10 +8,13 @@ pub mod chain;
 pub mod decks;
 pub mod edges;
 pub mod ground;
+pub mod lay;
 pub mod lines;
+pub mod random_lists;
 pub mod rng;
 pub mod script;
 pub mod spoil;
+pub mod spoil_ranges;
 
 /// The largest address, place and sector that a line can name.
 pub const ALL_32_BITS: u64 = 0xFFFF_FFFF;

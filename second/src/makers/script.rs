@@ -4,10 +4,12 @@
 use crate::bench::BENCH_MEMORY;
 use crate::board::SECTOR_BYTES;
 use crate::drive::Drive;
+use crate::link_list::ELEMENT_BYTES;
 use crate::makers::block::Block;
+use crate::range::Range;
 use crate::record::Record;
 use crate::trial::answer::Answer;
-use crate::trial::line::Line;
+use crate::trial::line::{Line, MOST_PATCH};
 use crate::trial::state::State;
 
 #[derive(Clone, Debug, Default)]
@@ -15,6 +17,13 @@ pub struct Script {
     pub lines: Vec<Line>,
     pub state: State,
     cases: u64,
+}
+
+/// The eight bytes of an element of a link list.
+pub fn element_bytes(range: &Range) -> [u8; ELEMENT_BYTES as usize] {
+    let [_, _, high, low] = range.length.to_be_bytes();
+    let [a, b, c, d] = range.address.to_be_bytes();
+    [high, low, 0xE5, 0xD6, a, b, c, d]
 }
 
 impl Script {
@@ -60,8 +69,30 @@ impl Script {
         self.say(Line::Put { address, bytes: block.bytes.to_vec() });
     }
 
+    /// Sets a record, and then those of its ranges that are not 0.
     pub fn record(&mut self, place: u64, record: Record) {
-        self.say(Line::Record { place, record });
+        let listless = Record { list: Record::default().list, ..record };
+        self.say(Line::Record { place, record: listless });
+        for (index, range) in record.list.into_iter().enumerate() {
+            if range != Range::default() {
+                self.say(Line::Range { place, index: index as u64, range });
+            }
+        }
+    }
+
+    /// Puts a link list in memory. The two bytes of an element that the rules
+    /// ignore get other values, so that a wrong offset shows.
+    pub fn link_list(&mut self, address: u64, list: &[Range]) {
+        let bytes: Vec<u8> = list.iter().flat_map(element_bytes).collect();
+        self.put(address, &bytes);
+    }
+
+    /// Puts any number of bytes in memory, in as many lines as it takes.
+    pub fn put(&mut self, address: u64, bytes: &[u8]) {
+        for (k, part) in bytes.chunks(MOST_PATCH).enumerate() {
+            let address = address + (MOST_PATCH * k) as u64;
+            self.say(Line::Put { address, bytes: part.to_vec() });
+        }
     }
 
     pub fn spoil(&mut self, place: u64, field: u64, value: u64) {

@@ -7,20 +7,24 @@ use crate::iopb::IOPB_BYTES;
 use crate::makers::calls::call_on_table;
 use crate::makers::rng::Rng;
 use crate::makers::script::Script;
+use crate::makers::spoil_ranges::{listed_place, spoil_ranges};
 use crate::makers::ALL_32_BITS;
 use crate::record::Record;
-use crate::trial::line::{field_of, Line};
+use crate::trial::line::{field_of, Line, FIELD_MOST};
 
 /// Spoils one thing, calls, and in most cases puts it back.
 pub fn spoil_and_call(rng: &mut Rng, script: &mut Script) {
-    match rng.below(10) {
-        0 => spoil_number(rng, script),
-        1 => spoil_protection(rng, script),
+    let listed = listed_place(rng, script);
+    match (rng.below(20), listed) {
+        (0 | 1, _) => spoil_number(rng, script),
+        (2 | 3, _) => spoil_protection(rng, script),
+        (4..=12, Some(place)) => spoil_ranges(rng, script, place),
         _ => spoil_field(rng, script),
     }
 }
 
-fn some_calls(rng: &mut Rng, script: &mut Script) {
+/// A few calls on the table as it is.
+pub fn some_calls(rng: &mut Rng, script: &mut Script) {
     for _ in 0..rng.between(1, 3) {
         call_on_table(rng, script);
     }
@@ -53,7 +57,7 @@ fn spoil_field(rng: &mut Rng, script: &mut Script) {
     let records = script.state.commands.min(32) + u64::from(rng.once_in(8));
     let place = rng.below(records.max(1));
     let record = script.state.table[place as usize];
-    let field = rng.one_of(&[0, 0, 0, 1, 2, 3, 3, 4, 4, 5, 6]);
+    let field = rng.one_of(&[0, 0, 0, 1, 2, 3, 3, 4, 4, 5, 6, 7]);
     let value = wrong_value(rng, script, &record, field);
     script.spoil(place, field, value);
     if rng.once_in(12) {
@@ -95,10 +99,11 @@ fn wrong_value(rng: &mut Rng, script: &Script, record: &Record, field: u64) -> u
         3 => rng.one_of(&either_side(record.steps())),
         4 => wrong_count(rng, memory, sectors, record),
         5 => u64::from(record.byte0 & 0xF0) | rng.one_of(&[0, 1, 1, 2, 2, 3, 7, 15]),
-        _ => rng.one_of(&[0, 0, 0x10, 0x14, 0x90, 0xFF, taken % 256]),
+        6 => rng.one_of(&[0, 0, 0x10, 0x14, 0x90, 0xFF, taken % 256]),
+        // Ranges where there were none, of length 0 or left from before.
+        _ => rng.one_of(&[0, 1, 2, 32, 33, ALL_32_BITS]),
     };
-    let most = [ALL_32_BITS, ALL_32_BITS, ALL_32_BITS, ALL_32_BITS, 0xFFFF, 0xFF, 0xFF];
-    value.min(most[field as usize])
+    value.min(FIELD_MOST[field as usize])
 }
 
 /// Counts at zero, at the steps taken, at the end of memory and of the drive.

@@ -2,6 +2,8 @@
 //! The words and limits are those of the format's own page.
 
 use crate::drive::Drive;
+use crate::link_list::MOST_ELEMENTS;
+use crate::range::Range;
 use crate::record::Record;
 use std::fmt;
 
@@ -9,26 +11,58 @@ use std::fmt;
 pub const TABLE_RECORDS: u64 = 40;
 const MOST_MEMORY: u64 = 66_560;
 const MOST_IMAGE: u64 = 16_778_240;
-const MOST_PATCH: usize = 64;
+/// The most bytes that one line puts.
+pub const MOST_PATCH: usize = 64;
 const MOST_PICKS: usize = 256;
 const MOST_DECK: usize = 1_100;
 const BITS_8: u64 = 0xFF;
 const BITS_16: u64 = 0xFFFF;
 const BITS_32: u64 = 0xFFFF_FFFF;
 
-/// The most that each of the seven fields of a record may be, in order.
-const FIELD_MOST: [u64; 7] = [BITS_32, BITS_32, BITS_32, BITS_32, BITS_16, BITS_8, BITS_8];
+/// The fields of a record before its ranges.
+pub const FIELDS: u64 = 8;
+/// The most that each of these fields may be, in order.
+pub const FIELD_MOST: [u64; FIELDS as usize] =
+    [BITS_32, BITS_32, BITS_32, BITS_32, BITS_16, BITS_8, BITS_8, BITS_32];
 
 #[derive(Clone, Debug, PartialEq, Eq)]
 pub enum Line {
     Case(u64),
-    Memory { length: u64, a: u8, b: u8 },
-    Put { address: u64, bytes: Vec<u8> },
-    Image { length: u64, a: u8, b: u8, c: u8 },
-    Disk { offset: u64, bytes: Vec<u8> },
+    Memory {
+        length: u64,
+        a: u8,
+        b: u8,
+    },
+    Put {
+        address: u64,
+        bytes: Vec<u8>,
+    },
+    Image {
+        length: u64,
+        a: u8,
+        b: u8,
+        c: u8,
+    },
+    Disk {
+        offset: u64,
+        bytes: Vec<u8>,
+    },
     Drive(Drive),
-    Record { place: u64, record: Record },
-    Spoil { place: u64, field: u64, value: u64 },
+    /// A record by its eight fields; its ranges are all 0.
+    Record {
+        place: u64,
+        record: Record,
+    },
+    Range {
+        place: u64,
+        index: u64,
+        range: Range,
+    },
+    Spoil {
+        place: u64,
+        field: u64,
+        value: u64,
+    },
     Commands(u64),
     Lent(u64),
     Walk(u64),
@@ -116,12 +150,20 @@ fn setting_line(word: &str, numbers: &[u64]) -> Result<Option<Line>, String> {
             last_head_max_sector: byte(*last)?,
             protected: up_to(1, *protected)? == 1,
         }),
-        ("record", [place, fields @ ..]) if fields.len() == 7 => {
+        ("record", [place, fields @ ..]) if fields.len() as u64 == FIELDS => {
             Line::Record { place: up_to(TABLE_RECORDS - 1, *place)?, record: record(fields)? }
         }
+        ("range", [place, index, address, length]) => Line::Range {
+            place: up_to(TABLE_RECORDS - 1, *place)?,
+            index: up_to(MOST_ELEMENTS - 1, *index)?,
+            range: Range {
+                address: up_to(BITS_32, *address)? as u32,
+                length: up_to(BITS_16, *length)? as u32,
+            },
+        },
         ("spoil", [place, field, value]) => Line::Spoil {
             place: up_to(TABLE_RECORDS - 1, *place)?,
-            field: up_to(6, *field)?,
+            field: up_to(FIELDS - 1, *field)?,
             value: up_to(FIELD_MOST[*field as usize], *value)?,
         },
         ("commands", [n]) => Line::Commands(up_to(BITS_32, *n)?),
@@ -139,7 +181,7 @@ fn record(fields: &[u64]) -> Result<Record, String> {
     Ok(record)
 }
 
-/// Sets one of the seven fields of a record, by its number in the format.
+/// Sets one of the eight fields of a record, by its number in the format.
 pub fn set_field(record: &mut Record, field: u64, value: u64) {
     match field {
         0 => record.iopb = value as u32,
@@ -149,11 +191,12 @@ pub fn set_field(record: &mut Record, field: u64, value: u64) {
         4 => record.count = value as u16,
         5 => record.byte0 = value as u8,
         6 => record.code = value as u8,
-        _ => unreachable!("the format has fields 0 to 6"),
+        7 => record.ranges = value as u32,
+        _ => unreachable!("the format has fields 0 to 7"),
     }
 }
 
-/// One of the seven fields of a record, by its number in the format.
+/// One of the eight fields of a record, by its number in the format.
 pub fn field_of(record: &Record, field: u64) -> u64 {
     match field {
         0 => u64::from(record.iopb),
@@ -163,7 +206,8 @@ pub fn field_of(record: &Record, field: u64) -> u64 {
         4 => u64::from(record.count),
         5 => u64::from(record.byte0),
         6 => u64::from(record.code),
-        _ => unreachable!("the format has fields 0 to 6"),
+        7 => u64::from(record.ranges),
+        _ => unreachable!("the format has fields 0 to 7"),
     }
 }
 
@@ -211,7 +255,10 @@ impl fmt::Display for Line {
             Line::Drive(drive) => write_drive(out, drive),
             Line::Record { place, record } => {
                 write!(out, "record {place}")?;
-                (0..7).try_for_each(|field| write!(out, " {}", field_of(record, field)))
+                (0..FIELDS).try_for_each(|field| write!(out, " {}", field_of(record, field)))
+            }
+            Line::Range { place, index, range: Range { address, length } } => {
+                write!(out, "range {place} {index} {address} {length}")
             }
             Line::Spoil { place, field, value } => write!(out, "spoil {place} {field} {value}"),
             Line::Commands(n) => write!(out, "commands {n}"),

@@ -5,6 +5,8 @@ pub mod answer;
 pub mod digest;
 pub mod last_head;
 pub mod line;
+pub mod list_steps;
+pub mod list_walks;
 pub mod state;
 pub mod stream;
 pub mod tally;

@@ -51,6 +51,9 @@ impl State {
             Line::Disk { offset, bytes } => patch(&mut self.board.image, *offset, bytes)?,
             Line::Drive(drive) => self.board.drive = *drive,
             Line::Record { place, record } => self.table[*place as usize] = *record,
+            Line::Range { place, index, range } => {
+                self.table[*place as usize].list[*index as usize] = *range;
+            }
             Line::Spoil { place, field, value } => {
                 set_field(&mut self.table[*place as usize], *field, *value);
             }

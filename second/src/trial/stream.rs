@@ -26,9 +26,9 @@ pub fn count_cases(input: impl BufRead) -> Result<Tally, Trouble> {
     let mut tally = Tally::new();
     for (number, text) in input.lines().enumerate() {
         let line = line_of(number, text)?;
-        let table = state.table;
+        let before = state.clone();
         let answer = state.play(&line).map_err(|error| at(number, &error))?;
-        tally.see(&table, &state, &line, &answer);
+        tally.see(&before, &state, &line, &answer);
     }
     Ok(tally)
 }

@@ -4,22 +4,28 @@
 use crate::bench::BenchReply;
 use crate::conflict::{data_bytes, meet, sectors, status_bytes};
 use crate::iopb::fields_at;
+use crate::pick::take_step;
 use crate::record::{causes, Cause, Record, MOST_COMMANDS};
 use crate::trial::answer::Answer;
 use crate::trial::last_head;
 use crate::trial::line::Line;
+use crate::trial::list_steps;
+use crate::trial::list_walks;
 use crate::trial::state::State;
 use crate::walk::WalkReply;
 use std::collections::{BTreeMap, BTreeSet};
 
-const CODES: [u8; 10] = [0x00, 0x10, 0x11, 0x12, 0x13, 0x14, 0x1E, 0x42, 0x4B, 0x90];
+const CODES: [u8; 12] = [0x00, 0x10, 0x11, 0x12, 0x13, 0x14, 0x1C, 0x1E, 0x1F, 0x42, 0x4B, 0x90];
 const KINDS: [&str; 4] = ["sector", "data-data", "data-status", "status-status"];
-const CAUSES: [(Cause, &str); 7] = [
+const CAUSES: [(Cause, &str); 10] = [
     (Cause::OverThirtyTwo, "over 32 commands"),
     (Cause::IopbOutside, "IOPB not all in memory"),
     (Cause::TakenAbove, "steps taken above steps"),
     (Cause::CountZero, "count zero"),
     (Cause::DataOutside, "data outside memory"),
+    (Cause::RangesOverThirtyTwo, "over 32 ranges"),
+    (Cause::RangeOutside, "a range outside memory"),
+    (Cause::LengthsOff, "lengths that don't add up"),
     (Cause::SectorsOutside, "sectors outside drive"),
     (Cause::WriteProtected, "write to protected drive"),
 ];
@@ -70,8 +76,8 @@ impl Tally {
         }
     }
 
-    /// Counts one line: the table before it, and the state after it.
-    pub fn see(&mut self, before: &[Record], state: &State, line: &Line, answer: &Answer) {
+    /// Counts one line: the state before it, and the state after it.
+    pub fn see(&mut self, before: &State, state: &State, line: &Line, answer: &Answer) {
         match answer {
             Answer::Quiet | Answer::Steps(_) => {}
             Answer::Case(_) => self.add("cases"),
@@ -80,7 +86,7 @@ impl Tally {
                 self.add(&format!("{word} {number}"));
                 self.see_one(state, word, *number);
                 if let Line::Pick(place) | Line::LentPick(place) = line {
-                    self.see_pick(before, *place, *number);
+                    self.see_pick(&mut before.clone(), *place, *number);
                 }
                 self.see_causes(state, *number);
             }
@@ -88,7 +94,7 @@ impl Tally {
                 self.add(&format!("picks {}", reply.number));
                 self.see_one(state, "picks", reply.number);
                 if let Line::Picks(places) = line {
-                    self.see_list(before, places, &reply.numbers);
+                    self.see_list(before.clone(), places, &reply.numbers);
                 }
                 self.see_finished(reply.number, reply.finished);
                 self.see_causes(state, reply.number);
@@ -96,6 +102,7 @@ impl Tally {
             Answer::Written(reply) => {
                 self.add(&format!("written {}", reply.number));
                 self.see_one(state, "written", reply.number);
+                self.see_written(before.clone(), reply.steps);
                 self.see_finished(reply.number, reply.finished);
                 self.see_causes(state, reply.number);
             }
@@ -137,6 +144,7 @@ impl Tally {
             self.add(&format!("code {:02X}", record.code));
             let fields = fields_at(&state.board, *address);
             self.add_all(last_head::command_rows(drive, &fields, record));
+            self.add_all(list_walks::command_rows(&state.board, &fields, record));
             if fields.next % 2 == 1 {
                 self.add(if fields.chen == 1 { ODD_CHAINED } else { ODD_ALONE });
             }
@@ -161,37 +169,51 @@ impl Tally {
         }
     }
 
-    /// Goes through a list again, keeping the steps taken, so that each
-    /// refused pick is judged by the table that it met.
-    fn see_list(&mut self, before: &[Record], places: &[u8], numbers: &[u8]) {
-        let mut table = before.to_vec();
+    /// Goes through a list again, step by step, so that each pick is judged by
+    /// what it met.
+    fn see_list(&mut self, mut state: State, places: &[u8], numbers: &[u8]) {
         for (place, number) in places.iter().zip(numbers) {
             self.add(&format!("pick in a list {number}"));
-            self.see_pick(&table, u64::from(*place), *number);
-            if *number == 0 {
-                table[usize::from(*place)].taken += 1;
-            }
+            self.see_pick(&mut state, u64::from(*place), *number);
         }
     }
 
-    /// A pick with its number, and the table as the pick met it.
-    fn see_pick(&mut self, table: &[Record], place: u64, number: u8) {
-        match number {
-            0 if table[..place as usize].iter().any(|record| !record.finished()) => {
-                self.add(PASSED);
-            }
-            6 => self.see_conflict(table, place as usize),
-            _ => {}
+    /// Goes through a run as written again, step by step.
+    fn see_written(&mut self, mut state: State, steps: u64) {
+        for _ in 0..steps {
+            let earliest = state.table.iter().position(|record| !record.finished());
+            self.see_step(&mut state, earliest.expect("a step was taken"));
         }
+    }
+
+    /// A pick with its number, and the state as the pick met it. If it was not
+    /// refused, its step is taken here too.
+    fn see_pick(&mut self, state: &mut State, place: u64, number: u8) {
+        if number != 0 && number != 6 {
+            return;
+        }
+        let (earlier, picked) = (unfinished_before(state, place), state.table[place as usize]);
+        if number == 6 {
+            self.see_conflict(&earlier, &picked);
+            self.add_all(list_steps::conflict_rows(&earlier, &picked));
+            return;
+        }
+        if !earlier.is_empty() {
+            self.add(PASSED);
+            self.add_all(list_steps::past_rows(&earlier, &picked));
+        }
+        self.see_step(state, place as usize);
+    }
+
+    fn see_step(&mut self, state: &mut State, place: usize) {
+        self.add_all(list_steps::step_rows(&state.board, &state.table[place]));
+        take_step(&mut state.board, &mut state.table[place]);
     }
 
     /// Every kind of overlap between a refused command and the unfinished
     /// ones before it; and the kind that alone would have refused it.
-    fn see_conflict(&mut self, table: &[Record], place: usize) {
-        let mut found = BTreeSet::new();
-        for earlier in table[..place].iter().filter(|record| !record.finished()) {
-            found.extend(kinds(earlier, &table[place]));
-        }
+    fn see_conflict(&mut self, earlier: &[Record], picked: &Record) {
+        let found: BTreeSet<_> = earlier.iter().flat_map(|record| kinds(record, picked)).collect();
         for kind in &found {
             self.add(&format!("conflict {kind}"));
             if found.len() == 1 {
@@ -206,6 +228,8 @@ impl Tally {
         }
         let found = causes(&state.board, &state.table, state.commands);
         self.add_all(last_head::refused_nine_rows(&state.board, &state.table, state.commands));
+        let in_use = state.commands.min(MOST_COMMANDS) as usize;
+        self.add_all(list_steps::refused_nine_rows(&state.table[..in_use]));
         for (cause, name) in CAUSES {
             if found.contains(&cause) {
                 self.add(&format!("refused 9: {name}"));
@@ -220,9 +244,25 @@ impl Tally {
         match reply {
             BenchReply::Deck => self.add("bench deck"),
             BenchReply::Chain(number) => self.add(&format!("bench chain {number}")),
-            BenchReply::Lines { .. } => self.add("bench lines"),
+            BenchReply::Lines { records, .. } => {
+                self.add("bench lines");
+                for record in records.iter().filter(|record| record.has_list()) {
+                    self.add(&bench_list(record.code));
+                }
+            }
         }
     }
+}
+
+/// The unfinished commands before a place.
+fn unfinished_before(state: &State, place: u64) -> Vec<Record> {
+    let before = state.table[..place as usize].iter();
+    before.filter(|record| !record.finished()).copied().collect()
+}
+
+/// The row for a command of a deck whose list was read.
+fn bench_list(code: u8) -> String {
+    format!("bench list read, code {code:02X}")
 }
 
 /// The kinds of overlap of two commands, where at least one of them writes.
@@ -274,10 +314,13 @@ fn all_names() -> Vec<String> {
     names.extend(CAUSES.iter().map(|(_, name)| format!("refused 9: {name}")));
     names.extend(CAUSES.iter().map(|(_, name)| format!("refused 9: {name}, alone")));
     names.extend(last_head::names());
+    names.extend(list_walks::names().into_iter().map(String::from));
+    names.extend(list_steps::names().into_iter().map(String::from));
     // The bench's sizes are right and it starts at 0, so 1 and 2 cannot come.
     names.extend(
         ["bench deck", "bench chain 3", "bench chain 4", "bench chain 5"].map(String::from),
     );
     names.push("bench lines".to_string());
+    names.extend([0x00, 0x1C, 0x1F, 0x4B].map(bench_list));
     names
 }

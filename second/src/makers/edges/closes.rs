@@ -24,6 +24,7 @@ fn no_transfers(script: &mut Script) {
         count: 0xFFFF,
         byte0: 0,
         code: 0,
+        ..Record::default()
     };
     for byte0 in [0x00, 0x03, 0x07, 0x0F, 0x97, 0xFF, 0xC0, 0x10, 0x33] {
         for code in [0x00, 0x14] {

@@ -1,5 +1,5 @@
-//! Further cases made by hand, at every edge of document 01 and of the last
-//! head's own maximum, and past it; each file here has one subject.
+//! Further cases made by hand, at every edge of document 01, of the last head's
+//! own maximum and of link lists, and past it; each file here has one subject.
 
 pub mod closes;
 pub mod codes;
@@ -7,6 +7,13 @@ pub mod conflicts;
 pub mod decks;
 pub mod last_head;
 pub mod last_head_sizes;
+pub mod list_codes;
+pub mod list_conflicts;
+pub mod list_decks;
+pub mod list_moves;
+pub mod list_runs;
+pub mod list_tables;
+pub mod lists;
 pub mod nines;
 pub mod over_ends;
 pub mod places;
@@ -42,6 +49,12 @@ pub fn all_edges(script: &mut Script) {
     over_ends::all(script);
     last_head_sizes::all(script);
     places::all(script);
+    list_codes::all(script);
+    list_moves::all(script);
+    list_conflicts::all(script);
+    list_tables::all(script);
+    list_runs::all(script);
+    list_decks::all(script);
 }
 
 /// Memory of a length, with a pattern.

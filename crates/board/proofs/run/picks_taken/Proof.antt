@@ -1,5 +1,6 @@
 -- `board::run::picks_taken` meets its contract: its first loop keeps `Opened` and its second `PicksLeft`; the search in it decides whether
 -- the pick waits.
+use Rattle.meaning.proofs.Rows.{not-true}
 use mathlib.Core.Path.{_≡_, refl, sym, ap, _∙_, subst}
 use Prim.Native.Nat.{ℕ, _+_, _≤_, _<_, _-_}
 use native.Mathlib.Omega.{arith}
@@ -25,7 +26,7 @@ use Rattle.board.proofs.Moving.{steps-small}
 use Rattle.board.proofs.Searching.{none-more, some-here, blocking, searched-to}
 use Rattle.board.proofs.Picking.{no-place, is-finished, has-to-wait, may-go}
 use Rattle.board.proofs.Taken.{length-with}
-use Rattle.board.proofs.Footprints.{Footprinted, footprinted-none, footprinted-more, done-free, by-footprints}
+use Rattle.board.proofs.Footprints.{Footprinted, footprinted-none, footprinted-more, done-free, apart-free, by-ranges}
 use Rattle.board.proofs.ByPicks.{PicksLeft, picks-begin, in-use-few, at-place, searched-on, pick-passed-over, some-left, pick-ready, all-picked, finished-by-count}
 use Rattle.board.proofs.Again.{picks-in-a-row}
 use Rattle.board.proofs.run.picks_taken.Statement.{statement}
@@ -304,33 +305,6 @@ loop2-again c = let a = c .before .before .before .before .before .before .befor
 footprints-meet-requires : tie.Need-footprints-meet-requires Inv-loop μ-loop Inv-loop2 μ-loop2 Inv-picks μ-picks
 footprints-meet-requires c κs = search needs
 
-mul-searched : tie.Need-mul-searched Inv-loop μ-loop Inv-loop2 μ-loop2 Inv-picks μ-picks
-mul-searched c = omega (arith, in-table (c .before .before .before .before .before .before .before .before .before .before .before .before))
-
-array-write-searched : tie.Need-array-write-searched Inv-loop μ-loop Inv-loop2 μ-loop2 Inv-picks μ-picks
-array-write-searched c = let e = ap length (c .before .before .before .before .before .before .loop2 .inv .1) in omega (arith, in-table (c .before .before .before .before .before .before .before .before .before .before .before .before), (c .before .before .before .before .before .before .before .before .before .before .before .before .before .before .before .picks .inv .search .long))
-
-add-passed-3 : tie.Need-add-passed-3 Inv-loop μ-loop Inv-loop2 μ-loop2 Inv-picks μ-picks
-add-passed-3 c = omega (arith, (c .before .before .before .before .before .before .loop2 .inv .2), (c .before .before .before .before .before .before .before .before .before .before .before .before .before .before .before .picks .inv .counted), (c .before .before .before .before .before .before .before .before .before .before .before .before .before .before .before .picks .inv .most), (c .before .before .before .before .before .before .before .before .before .before .before .before .before .before .before .before .before .before .before .before .before .before .before .before .before .before .good))
-
-picks-less-3 : tie.Need-picks-less-3 Inv-loop μ-loop Inv-loop2 μ-loop2 Inv-picks μ-picks
-picks-less-3 c = omega (arith, (c .before .before .before .before .before .before .before .before .before .before .before .before .before .before .picks-test .taken))
-
-picks-again-3 : tie.Need-picks-again-3 Inv-loop μ-loop Inv-loop2 μ-loop2 Inv-picks μ-picks
-unfolding waits
-picks-again-3 c = let a = c .before .before .before .before .before .before .before .before .before .before .before .before .before .before .before .before .before .before .before .before .before .before .before .before .before .before .args in
-    let l = c .before .before .before .before .before .before .before .before .before .before .before .before .before .before .before .picks in
-    let p = getD (a .picks .now) (l .next) 0 in
-    let t = tableWith (l .taken) (a .t4) in
-    let e = c .before .before .before .before .before .before .loop2 in
-    let blocked = ap (λ (x : Record). blocking x (getD t (e .earlier) noRecord)) (sym (here (c .before .before .before .before .before .before .before .before .before .before))) ∙ asked (c .before .before .before .before .before) true (by-footprints (getD (c .before .before .before .before .before .before .before .before .before .before .before .before .before .before .before .before .before .before .before .before .before .loop .footprints) (e .earlier) noFootprint) (getD (c .before .before .before .before .before .before .before .before .before .before .before .before .before .before .before .before .before .before .before .before .before .loop .footprints) p noFootprint) (getD (a .t4) (e .earlier) noRecord) (getD (a .t4) p noRecord) (getD (l .taken) (e .earlier) 0) (getD (l .taken) p 0) (its-foot (c .before .before .before .before .before)) (wanted-foot (c .before .before .before .before .before)) true (c .before .before .if4 .left) (sym (c .before .footprints-meet .ensures) ∙ (c .if5 .taken))) in
-    let open-yet = ap finished (sym (here (c .before .before .before .before .before .before .before .before .before .before))) ∙ sym (c .before .before .before .before .before .before .before .before .before .finished .ensures) ∙ (c .before .before .before .before .before .before .before .before .if3 .left) in
-    let six = has-to-wait t (a .commands) p (c .before .before .before .before .before .before .before .before .before .before .before .before .if2 .left) open-yet (some-here noRecord (blocking (getD t p noRecord)) t (e .earlier) p (c .before .before .before .before .before .loop2-test .taken) (inside (c .before .before .before .before .before)) blocked) in
-    let to = searched-to t (l .searched) p (e .earlier) (l .inv .search) (in-table (c .before .before .before .before .before .before .before .before .before .before .before .before)) (e .inv .0) (clear (c .before .before .before .before .before .before)) in
-    subst (λ (x : List ℕ). PicksLeft (a .d) (a .commands) (a .picks .now) (a .memory .now) (a .image .now) (a .t4) (l .memory) (l .image) (l .taken) (set x p (e .earlier)) (l .steps) (e .passed + 1) (l .next + 1)) (sym (e .inv .1))
-    (subst (λ (x : ℕ). PicksLeft (a .d) (a .commands) (a .picks .now) (a .memory .now) (a .image .now) (a .t4) (l .memory) (l .image) (l .taken) (set (l .searched) p (e .earlier)) (l .steps) (x + 1) (l .next + 1)) (sym (e .inv .2))
-    (pick-passed-over (a .d) (a .commands) (a .picks .now) (a .memory .now) (a .image .now) (a .t4) (l .memory) (l .image) (l .taken) (set (l .searched) p (e .earlier)) (l .steps) (l .passed) (l .next) (searched-on (a .d) (a .commands) (a .picks .now) (a .memory .now) (a .image .now) (a .t4) (l .memory) (l .image) (l .taken) (l .searched) (l .steps) (l .passed) (l .next) (l .inv) (set (l .searched) p (e .earlier)) to) (c .before .before .before .before .before .before .before .before .before .before .before .before .before .before .picks-test .taken) (λ q. omega (arith, six, q))))
-
 add-earlier-2 : tie.Need-add-earlier-2 Inv-loop μ-loop Inv-loop2 μ-loop2 Inv-picks μ-picks
 add-earlier-2 c = omega (arith, in-table (c .before .before .before .before .before .before .before .before .before .before .before .before))
 
@@ -347,7 +321,68 @@ loop2-again-2 c = let a = c .before .before .before .before .before .before .bef
       e .inv .1,
       e .inv .2,
       none-more noRecord (blocking (c .before .before .before .before .before .before .before .before .before .before .with-taken .result)) t (e .earlier) (inside (c .before .before .before .before .before)) (e .inv .3)
-          (asked (c .before .before .before .before .before) false (by-footprints (getD (c .before .before .before .before .before .before .before .before .before .before .before .before .before .before .before .before .before .before .before .before .before .loop .footprints) (e .earlier) noFootprint) (getD (c .before .before .before .before .before .before .before .before .before .before .before .before .before .before .before .before .before .before .before .before .before .loop .footprints) p noFootprint) (getD (a .t4) (e .earlier) noRecord) (getD (a .t4) p noRecord) (getD (l .taken) (e .earlier) 0) (getD (l .taken) p 0) (its-foot (c .before .before .before .before .before)) (wanted-foot (c .before .before .before .before .before)) false (c .before .before .if4 .left) (sym (c .before .footprints-meet .ensures) ∙ (c .if5 .left)))),
+          (asked (c .before .before .before .before .before) false (apart-free (getD (c .before .before .before .before .before .before .before .before .before .before .before .before .before .before .before .before .before .before .before .before .before .loop .footprints) (e .earlier) noFootprint) (getD (c .before .before .before .before .before .before .before .before .before .before .before .before .before .before .before .before .before .before .before .before .before .loop .footprints) p noFootprint) (getD (a .t4) (e .earlier) noRecord) (getD (a .t4) p noRecord) (getD (l .taken) (e .earlier) 0) (getD (l .taken) p 0) (its-foot (c .before .before .before .before .before)) (wanted-foot (c .before .before .before .before .before)) (c .before .before .if4 .left) (sym (c .before .footprints-meet .ensures) ∙ not-true _ (c .if5 .taken)))),
+    )
+
+mul-ranges-conflict : tie.Need-mul-ranges-conflict Inv-loop μ-loop Inv-loop2 μ-loop2 Inv-picks μ-picks
+mul-ranges-conflict c = omega (arith, in-table (c .before .before .before .before .before .before .before .before .before .before .before .before), (c .before .before .before .before .before .loop2-test .taken))
+
+array-copy-out-ranges-conflict : tie.Need-array-copy-out-ranges-conflict Inv-loop μ-loop Inv-loop2 μ-loop2 Inv-picks μ-picks
+array-copy-out-ranges-conflict c = omega (arith, in-table (c .before .before .before .before .before .before .before .before .before .before .before .before), (c .before .before .before .before .before .loop2-test .taken))
+
+mul-ranges-conflict-2 : tie.Need-mul-ranges-conflict-2 Inv-loop μ-loop Inv-loop2 μ-loop2 Inv-picks μ-picks
+mul-ranges-conflict-2 c = omega (arith, in-table (c .before .before .before .before .before .before .before .before .before .before .before .before .before))
+
+array-copy-out-ranges-conflict-2 : tie.Need-array-copy-out-ranges-conflict-2 Inv-loop μ-loop Inv-loop2 μ-loop2 Inv-picks μ-picks
+array-copy-out-ranges-conflict-2 c = omega (arith, in-table (c .before .before .before .before .before .before .before .before .before .before .before .before .before))
+
+ranges-conflict-requires : tie.Need-ranges-conflict-requires Inv-loop μ-loop Inv-loop2 μ-loop2 Inv-picks μ-picks
+ranges-conflict-requires c κs = search needs
+
+mul-searched : tie.Need-mul-searched Inv-loop μ-loop Inv-loop2 μ-loop2 Inv-picks μ-picks
+mul-searched c = omega (arith, in-table (c .before .before .before .before .before .before .before .before .before .before .before .before .before .before .before .before))
+
+array-write-searched : tie.Need-array-write-searched Inv-loop μ-loop Inv-loop2 μ-loop2 Inv-picks μ-picks
+array-write-searched c = let e = ap length (c .before .before .before .before .before .before .before .before .before .before .loop2 .inv .1) in omega (arith, in-table (c .before .before .before .before .before .before .before .before .before .before .before .before .before .before .before .before), (c .before .before .before .before .before .before .before .before .before .before .before .before .before .before .before .before .before .before .before .picks .inv .search .long))
+
+add-passed-3 : tie.Need-add-passed-3 Inv-loop μ-loop Inv-loop2 μ-loop2 Inv-picks μ-picks
+add-passed-3 c = omega (arith, (c .before .before .before .before .before .before .before .before .before .before .loop2 .inv .2), (c .before .before .before .before .before .before .before .before .before .before .before .before .before .before .before .before .before .before .before .picks .inv .counted), (c .before .before .before .before .before .before .before .before .before .before .before .before .before .before .before .before .before .before .before .picks .inv .most), (c .before .before .before .before .before .before .before .before .before .before .before .before .before .before .before .before .before .before .before .before .before .before .before .before .before .before .before .before .before .before .good))
+
+picks-less-3 : tie.Need-picks-less-3 Inv-loop μ-loop Inv-loop2 μ-loop2 Inv-picks μ-picks
+picks-less-3 c = omega (arith, (c .before .before .before .before .before .before .before .before .before .before .before .before .before .before .before .before .before .before .picks-test .taken))
+
+picks-again-3 : tie.Need-picks-again-3 Inv-loop μ-loop Inv-loop2 μ-loop2 Inv-picks μ-picks
+unfolding waits
+picks-again-3 c = let a = c .before .before .before .before .before .before .before .before .before .before .before .before .before .before .before .before .before .before .before .before .before .before .before .before .before .before .before .before .before .before .args in
+    let l = c .before .before .before .before .before .before .before .before .before .before .before .before .before .before .before .before .before .before .before .picks in
+    let p = getD (a .picks .now) (l .next) 0 in
+    let t = tableWith (l .taken) (a .t4) in
+    let e = c .before .before .before .before .before .before .before .before .before .before .loop2 in
+    let blocked = ap (λ (x : Record). blocking x (getD t (e .earlier) noRecord)) (sym (here (c .before .before .before .before .before .before .before .before .before .before .before .before .before .before))) ∙ asked (c .before .before .before .before .before .before .before .before .before) true (by-ranges (getD (c .before .before .before .before .before .before .before .before .before .before .before .before .before .before .before .before .before .before .before .before .before .before .before .before .before .loop .footprints) (e .earlier) noFootprint) (getD (c .before .before .before .before .before .before .before .before .before .before .before .before .before .before .before .before .before .before .before .before .before .before .before .before .before .loop .footprints) p noFootprint) (getD (a .t4) (e .earlier) noRecord) (getD (a .t4) p noRecord) (getD (l .taken) (e .earlier) 0) (getD (l .taken) p 0) (its-foot (c .before .before .before .before .before .before .before .before .before)) (wanted-foot (c .before .before .before .before .before .before .before .before .before)) true (c .before .before .before .before .before .before .if4 .left) (sym (c .before .ranges-conflict .ensures) ∙ (c .if6 .taken))) in
+    let open-yet = ap finished (sym (here (c .before .before .before .before .before .before .before .before .before .before .before .before .before .before))) ∙ sym (c .before .before .before .before .before .before .before .before .before .before .before .before .before .finished .ensures) ∙ (c .before .before .before .before .before .before .before .before .before .before .before .before .if3 .left) in
+    let six = has-to-wait t (a .commands) p (c .before .before .before .before .before .before .before .before .before .before .before .before .before .before .before .before .if2 .left) open-yet (some-here noRecord (blocking (getD t p noRecord)) t (e .earlier) p (c .before .before .before .before .before .before .before .before .before .loop2-test .taken) (inside (c .before .before .before .before .before .before .before .before .before)) blocked) in
+    let to = searched-to t (l .searched) p (e .earlier) (l .inv .search) (in-table (c .before .before .before .before .before .before .before .before .before .before .before .before .before .before .before .before)) (e .inv .0) (clear (c .before .before .before .before .before .before .before .before .before .before)) in
+    subst (λ (x : List ℕ). PicksLeft (a .d) (a .commands) (a .picks .now) (a .memory .now) (a .image .now) (a .t4) (l .memory) (l .image) (l .taken) (set x p (e .earlier)) (l .steps) (e .passed + 1) (l .next + 1)) (sym (e .inv .1))
+    (subst (λ (x : ℕ). PicksLeft (a .d) (a .commands) (a .picks .now) (a .memory .now) (a .image .now) (a .t4) (l .memory) (l .image) (l .taken) (set (l .searched) p (e .earlier)) (l .steps) (x + 1) (l .next + 1)) (sym (e .inv .2))
+    (pick-passed-over (a .d) (a .commands) (a .picks .now) (a .memory .now) (a .image .now) (a .t4) (l .memory) (l .image) (l .taken) (set (l .searched) p (e .earlier)) (l .steps) (l .passed) (l .next) (searched-on (a .d) (a .commands) (a .picks .now) (a .memory .now) (a .image .now) (a .t4) (l .memory) (l .image) (l .taken) (l .searched) (l .steps) (l .passed) (l .next) (l .inv) (set (l .searched) p (e .earlier)) to) (c .before .before .before .before .before .before .before .before .before .before .before .before .before .before .before .before .before .before .picks-test .taken) (λ q. omega (arith, six, q))))
+
+add-earlier-3 : tie.Need-add-earlier-3 Inv-loop μ-loop Inv-loop2 μ-loop2 Inv-picks μ-picks
+add-earlier-3 c = omega (arith, in-table (c .before .before .before .before .before .before .before .before .before .before .before .before .before .before .before .before))
+
+loop2-less-3 : tie.Need-loop2-less-3 Inv-loop μ-loop Inv-loop2 μ-loop2 Inv-picks μ-picks
+loop2-less-3 c = omega arith
+
+loop2-again-3 : tie.Need-loop2-again-3 Inv-loop μ-loop Inv-loop2 μ-loop2 Inv-picks μ-picks
+loop2-again-3 c = let a = c .before .before .before .before .before .before .before .before .before .before .before .before .before .before .before .before .before .before .before .before .before .before .before .before .before .before .before .before .before .before .args in
+    let l = c .before .before .before .before .before .before .before .before .before .before .before .before .before .before .before .before .before .before .before .picks in
+    let e = c .before .before .before .before .before .before .before .before .before .before .loop2 in
+    let p = getD (a .picks .now) (l .next) 0 in
+    let t = tableWith (l .taken) (a .t4) in (
+      omega arith,
+      e .inv .1,
+      e .inv .2,
+      none-more noRecord (blocking (c .before .before .before .before .before .before .before .before .before .before .before .before .before .before .with-taken .result)) t (e .earlier) (inside (c .before .before .before .before .before .before .before .before .before)) (e .inv .3)
+          (asked (c .before .before .before .before .before .before .before .before .before) false (by-ranges (getD (c .before .before .before .before .before .before .before .before .before .before .before .before .before .before .before .before .before .before .before .before .before .before .before .before .before .loop .footprints) (e .earlier) noFootprint) (getD (c .before .before .before .before .before .before .before .before .before .before .before .before .before .before .before .before .before .before .before .before .before .before .before .before .before .loop .footprints) p noFootprint) (getD (a .t4) (e .earlier) noRecord) (getD (a .t4) p noRecord) (getD (l .taken) (e .earlier) 0) (getD (l .taken) p 0) (its-foot (c .before .before .before .before .before .before .before .before .before)) (wanted-foot (c .before .before .before .before .before .before .before .before .before)) false (c .before .before .before .before .before .before .if4 .left) (sym (c .before .ranges-conflict .ensures) ∙ (c .if6 .left)))),
     )
 
 mul-searched-2 : tie.Need-mul-searched-2 Inv-loop μ-loop Inv-loop2 μ-loop2 Inv-picks μ-picks
@@ -486,14 +521,22 @@ picks-taken-spec =
     loop2-less
     loop2-again
     footprints-meet-requires
+    add-earlier-2
+    loop2-less-2
+    loop2-again-2
+    mul-ranges-conflict
+    array-copy-out-ranges-conflict
+    mul-ranges-conflict-2
+    array-copy-out-ranges-conflict-2
+    ranges-conflict-requires
     mul-searched
     array-write-searched
     add-passed-3
     picks-less-3
     picks-again-3
-    add-earlier-2
-    loop2-less-2
-    loop2-again-2
+    add-earlier-3
+    loop2-less-3
+    loop2-again-3
     mul-searched-2
     array-write-searched-2
     remaining-requires

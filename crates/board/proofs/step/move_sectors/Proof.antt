@@ -1,43 +1,14 @@
--- `board::step::move_sectors` meets its contract: the kind of the command decides which sectors are copied where.
-use mathlib.Core.Path.{sym, ap, _∙_}
-use Prim.Native.Nat.{ℕ}
-use mathlib.Core.List.{List}
+-- `board::step::move_sectors` meets its contract: whether there is a list decides how they are moved.
+use mathlib.Core.Path.{sym, _∙_}
 use Rattle.meaning.specs.Store.{lent}
-use Rattle.meaning.proofs.Rows.{or-first, or-second}
-use Rattle.board.proofs.Moving.{read-moved, write-moved, none-moved, room-on-disk, room-in-memory}
+use Rattle.meaning.proofs.Rows.{or-false}
+use Rattle.board.proofs.Moving.{none-moved}
 use borrow.Author.Needs.{needs}
 use Rattle.board.proofs.step.move_sectors.Statement.{statement}
 use Rattle.board.proofs.step.move_sectors.Tie as tie
 
-cast-step : tie.Need-cast-step
-cast-step c = search needs
-
-cast-on-disk : tie.Need-cast-on-disk
-cast-on-disk c = search needs
-
-add-on-disk : tie.Need-add-on-disk
-add-on-disk c = search needs
-
-mul-on-disk : tie.Need-mul-on-disk
-mul-on-disk c = search needs
-
-cast-in-memory : tie.Need-cast-in-memory
-cast-in-memory c = search needs
-
-mul-in-memory : tie.Need-mul-in-memory
-mul-in-memory c = search needs
-
-add-in-memory : tie.Need-add-in-memory
-add-in-memory c = search needs
-
-reads-requires : tie.Need-reads-requires
-reads-requires c κs = search needs
-
-copy-sectors-requires : tie.Need-copy-sectors-requires
-copy-sectors-requires c κs = let a = c .before .before .before .before .before .before .before .before .before .args in
-    let s = lent (a .memory .now) (a .image .now) in
-    let t = or-first _ _ (sym (c .before .before .before .reads .ensures) ∙ (c .before .before .if1 .taken)) in
-    (room-on-disk (a .n) (a .r) s (c .before .before .before .before .before .before .before .before .before .pre .1) (c .before .before .before .before .before .before .before .before .before .pre .0) t, room-in-memory (a .n) (a .r) s (c .before .before .before .before .before .before .before .before .before .pre .1) (c .before .before .before .before .before .before .before .before .before .pre .0) t)
+move-plain-requires : tie.Need-move-plain-requires
+move-plain-requires c κs = search needs
 
 same-length : tie.Need-same-length
 same-length c = search needs
@@ -46,20 +17,13 @@ same-length-2 : tie.Need-same-length-2
 same-length-2 c = search needs
 
 returns : tie.Need-returns
-returns c = let a = c .before .before .before .before .before .before .before .before .before .before .before .before .args in
-    let s = lent (a .memory .now) (a .image .now) in
-    let reading = sym (c .before .before .before .before .before .before .reads .ensures) ∙ (c .before .before .before .before .before .if1 .taken) in
-    let room = room-on-disk (a .n) (a .r) s (c .before .before .before .before .before .before .before .before .before .before .before .before .pre .1) (c .before .before .before .before .before .before .before .before .before .before .before .before .pre .0) (or-first _ _ reading) in
-    ap (λ (x : List ℕ). lent x (a .image .now)) (c .before .before .copy-sectors .ensures) ∙ sym (read-moved (a .n) (a .r) (a .memory .now) (a .image .now) reading room)
+returns c = search needs
 
-writes-requires : tie.Need-writes-requires
-writes-requires c κs = search needs
+transfers-requires : tie.Need-transfers-requires
+transfers-requires c κs = search needs
 
-copy-sectors-requires-2 : tie.Need-copy-sectors-requires-2
-copy-sectors-requires-2 c κs = let a = c .before .before .before .before .before .before .before .before .before .before .before .args in
-    let s = lent (a .memory .now) (a .image .now) in
-    let t = or-second _ _ (sym (c .before .before .before .before .before .reads .ensures) ∙ (c .before .before .before .before .if1 .left)) ∙ (sym (c .before .before .before .writes .ensures) ∙ (c .before .before .if2 .taken)) in
-    (room-in-memory (a .n) (a .r) s (c .before .before .before .before .before .before .before .before .before .before .before .pre .1) (c .before .before .before .before .before .before .before .before .before .before .before .pre .0) t, room-on-disk (a .n) (a .r) s (c .before .before .before .before .before .before .before .before .before .before .before .pre .1) (c .before .before .before .before .before .before .before .before .before .before .before .pre .0) t)
+move-listed-requires : tie.Need-move-listed-requires
+move-listed-requires c κs = (c .before .before .before .before .before .before .before .before .pre .1, sym (c .before .before .before .transfers .ensures) ∙ c .before .before .if2 .taken, c .before .before .before .before .if1 .left)
 
 same-length-3 : tie.Need-same-length-3
 same-length-3 c = search needs
@@ -68,35 +32,23 @@ same-length-4 : tie.Need-same-length-4
 same-length-4 c = search needs
 
 returns-2 : tie.Need-returns-2
-returns-2 c = let a = c .before .before .before .before .before .before .before .before .before .before .before .before .before .before .args in
-    let s = lent (a .memory .now) (a .image .now) in
-    let reading = sym (c .before .before .before .before .before .before .before .before .reads .ensures) ∙ (c .before .before .before .before .before .before .before .if1 .left) in
-    let writing = sym (c .before .before .before .before .before .before .writes .ensures) ∙ (c .before .before .before .before .before .if2 .taken) in
-    let room = room-in-memory (a .n) (a .r) s (c .before .before .before .before .before .before .before .before .before .before .before .before .before .before .pre .1) (c .before .before .before .before .before .before .before .before .before .before .before .before .before .before .pre .0) (or-second _ _ reading ∙ writing) in
-    ap (λ (x : List ℕ). lent (a .memory .now) x) (c .before .before .copy-sectors2 .ensures) ∙ sym (write-moved (a .n) (a .r) (a .memory .now) (a .image .now) reading writing room)
+returns-2 c = search needs
 
 returns-3 : tie.Need-returns-3
-returns-3 c = let a = c .before .before .before .before .before .before .before .before .before .args in
-    sym (none-moved (a .n) (a .r) (lent (a .memory .now) (a .image .now)) (sym (c .before .before .before .reads .ensures) ∙ (c .before .before .if1 .left)) (sym (c .before .writes .ensures) ∙ (c .if2 .left)))
+returns-3 c = let a = c .before .before .before .before .before .before .args in
+    let still = or-false _ _ (sym (c .before .transfers .ensures) ∙ c .if2 .left) in
+    sym (none-moved (a .n) (a .r) (lent (a .memory .now) (a .image .now)) (still .0) (still .1))
 
 pub move-sectors-spec : {M : Type 1} → statement M
 move-sectors-spec =
     tie.close
     (tie.spec
-    cast-step
-    cast-on-disk
-    add-on-disk
-    mul-on-disk
-    cast-in-memory
-    mul-in-memory
-    add-in-memory
-    reads-requires
-    copy-sectors-requires
+    move-plain-requires
     same-length
     same-length-2
     returns
-    writes-requires
-    copy-sectors-requires-2
+    transfers-requires
+    move-listed-requires
     same-length-3
     same-length-4
     returns-2

@@ -1,59 +1,29 @@
--- `chain::code::code` meets its contract: each of the three rows that every command is asked decides, or leaves it to what comes after.
+-- `chain::code::code` meets its contract: each test decides whose code it is.
 use mathlib.Core.Path.{sym, _∙_}
-use borrow.Author.Needs.{needs}
 use borrow.Author.Tests.{eq-eqb, ne-eqb}
-use Rattle.meaning.specs.Code.{codeOf}
 use Rattle.meaning.proofs.Rows.{pass, stop}
+use Rattle.chain.specs.Coding.{lateCode}
+use borrow.Author.Needs.{needs}
 use Rattle.chain.proofs.code.code.Statement.{statement}
 use Rattle.chain.proofs.code.code.Tie as tie
 
-misaligned-requires : tie.Need-misaligned-requires
-misaligned-requires c κs = search needs
-
 returns : tie.Need-returns
-unfolding codeOf
-returns c = sym (stop _ _ _ (sym (c .before .misaligned .ensures) ∙ c .if1 .taken))
+unfolding lateCode
+returns c = sym (pass _ _ _ (ne-eqb _ _ (c .if1 .taken)))
 
-unimplemented-requires : tie.Need-unimplemented-requires
-unimplemented-requires c κs = search needs
+plain-code-requires : tie.Need-plain-code-requires
+plain-code-requires c κs = search needs
 
 returns-2 : tie.Need-returns-2
-unfolding codeOf
-returns-2 c =
-    let a = c .before .before in
-    sym (pass _ _ _ (sym (a .before .misaligned .ensures) ∙ a .if1 .left) ∙ stop _ _ _ (sym (c .before .unimplemented .ensures) ∙ c .if2 .taken))
+unfolding lateCode
+returns-2 c = c .plain-code .ensures ∙ sym (stop _ _ _ (eq-eqb _ _ (c .before .before .if1 .left)) ∙ stop _ _ _ (eq-eqb _ _ (c .before .if2 .taken)))
+
+list-code-requires : tie.Need-list-code-requires
+list-code-requires c κs = search needs
 
 returns-3 : tie.Need-returns-3
-unfolding codeOf
-returns-3 c =
-    let b = c .before .before in
-    let a = b .before .before in
-    sym (pass _ _ _ (sym (a .before .misaligned .ensures) ∙ a .if1 .left)
-    ∙ pass _ _ _ (sym (b .before .unimplemented .ensures) ∙ b .if2 .left)
-    ∙ stop _ _ _ (eq-eqb _ _ (c .if3 .taken)))
-
-transfer-code-requires : tie.Need-transfer-code-requires
-transfer-code-requires c κs = search needs
-
-returns-4 : tie.Need-returns-4
-unfolding codeOf
-returns-4 c =
-    let e = c .before in
-    let b = e .before .before in
-    let a = b .before .before in
-    c .transfer-code .ensures
-    ∙ sym (pass _ _ _ (sym (a .before .misaligned .ensures) ∙ a .if1 .left)
-    ∙ pass _ _ _ (sym (b .before .unimplemented .ensures) ∙ b .if2 .left)
-    ∙ pass _ _ _ (ne-eqb _ _ (e .if3 .left)))
+unfolding lateCode
+returns-3 c = c .list-code .ensures ∙ sym (stop _ _ _ (eq-eqb _ _ (c .before .before .if1 .left)) ∙ pass _ _ _ (ne-eqb _ _ (c .before .if2 .left)))
 
 pub code-spec : {M : Type 1} → statement M
-code-spec =
-    tie.close
-    (tie.spec
-    misaligned-requires
-    returns
-    unimplemented-requires
-    returns-2
-    returns-3
-    transfer-code-requires
-    returns-4)
+code-spec = tie.close (tie.spec returns plain-code-requires returns-2 list-code-requires returns-3)

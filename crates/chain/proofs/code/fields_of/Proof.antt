@@ -13,6 +13,9 @@ subfunction-requires c κs = search needs
 unit-requires : tie.Need-unit-requires
 unit-requires c κs = search needs
 
+byte6-requires : tie.Need-byte6-requires
+byte6-requires c κs = search needs
+
 head-requires : tie.Need-head-requires
 head-requires c κs = search needs
 
@@ -42,6 +45,7 @@ fields-of-spec =
     byte0-requires
     subfunction-requires
     unit-requires
+    byte6-requires
     head-requires
     sector-requires
     count-requires

@@ -14,7 +14,7 @@ use Rattle.chain.proofs.code.transfer_code.Tie as tie
 -- the first j rows were passed
 abbrev Passed : ℕ → tie.Start → Type 0
 Passed j s =
-    let rows = transferRows (s .args .c) (s .args .d) (s .args .memory) in
+    let rows = transferRows (s .args .c) (s .args .d) in
     firstOf rows 0 ≡ firstOf (drop j rows) 0
 
 -- the function's entry, from each place past a row
@@ -39,9 +39,6 @@ entry-6 c = entry-5 (c .before .before)
 abbrev entry-7 : tie.Else7 → tie.Start
 entry-7 c = entry-6 (c .before .before)
 
-abbrev entry-8 : tie.Else8 → tie.Start
-entry-8 c = entry-7 (c .before .before)
-
 passed-1 : (c : tie.Else1) → Passed 1 (entry-1 c)
 passed-1 c = pass _ _ _ (ap not (eq-eqb _ _ (c .if1 .left)))
 
@@ -62,9 +59,6 @@ passed-6 c = passed-5 (c .before .before) ∙ pass _ _ _ (sym (c .before .past-d
 
 passed-7 : (c : tie.Else7) → Passed 7 (entry-7 c)
 passed-7 c = passed-6 (c .before .before) ∙ pass _ _ _ (sym (c .before .forbidden .ensures) ∙ c .if7 .left)
-
-passed-8 : (c : tie.Else8) → Passed 8 (entry-8 c)
-passed-8 c = passed-7 (c .before .before) ∙ pass _ _ _ (sym (c .before .past-memory .ensures) ∙ c .if8 .left)
 
 returns : tie.Need-returns
 returns c = sym (stop _ _ _ (ap not (ne-eqb _ _ (c .if1 .taken))))
@@ -96,14 +90,8 @@ forbidden-requires c κs = search needs
 returns-7 : tie.Need-returns-7
 returns-7 c = sym (passed-6 (c .before .before) ∙ stop _ _ _ (sym (c .before .forbidden .ensures) ∙ c .if7 .taken))
 
-past-memory-requires : tie.Need-past-memory-requires
-past-memory-requires c κs = search needs
-
 returns-8 : tie.Need-returns-8
-returns-8 c = sym (passed-7 (c .before .before) ∙ stop _ _ _ (sym (c .before .past-memory .ensures) ∙ c .if8 .taken))
-
-returns-9 : tie.Need-returns-9
-returns-9 c = sym (passed-8 c)
+returns-8 c = sym (passed-7 c)
 
 pub transfer-code-spec : {M : Type 1} → statement M
 transfer-code-spec =
@@ -119,6 +107,4 @@ transfer-code-spec =
     returns-6
     forbidden-requires
     returns-7
-    past-memory-requires
-    returns-8
-    returns-9)
+    returns-8)

@@ -1,25 +1,21 @@
--- `chain::ranges::crosses` meets its contract: the later start and the earlier end are what the calls ensure.
+-- `chain::ranges::crosses` meets its contract: the ends are the starts and the numbers.
 use Rattle.meaning.specs.Ranges.{crosses}
 use borrow.Author.Needs.{needs}
 use Rattle.chain.proofs.ranges.crosses.Statement.{statement}
 use Rattle.chain.proofs.ranges.crosses.Tie as tie
 
-later-requires : tie.Need-later-requires
-later-requires c κs = search needs
+add-common : tie.Need-add-common
+add-common c = search needs
 
-add-earlier : tie.Need-add-earlier
-add-earlier c = search needs
+add-common-2 : tie.Need-add-common-2
+add-common-2 c = search needs
 
-add-earlier-2 : tie.Need-add-earlier-2
-add-earlier-2 c = search needs
-
-earlier-requires : tie.Need-earlier-requires
-earlier-requires c κs = search needs
+common-requires : tie.Need-common-requires
+common-requires c κs = search needs
 
 returns : tie.Need-returns
 unfolding crosses
-returns c = simp (c .before .later .ensures, c .earlier .ensures)
+returns c = c .common .ensures
 
 pub crosses-spec : {M : Type 1} → statement M
-crosses-spec =
-    tie.close (tie.spec later-requires add-earlier add-earlier-2 earlier-requires returns)
+crosses-spec = tie.close (tie.spec add-common add-common-2 common-requires returns)

@@ -1,8 +1,28 @@
--- `chain::walk::record_of` meets its contract: the sector and the code are what the two calls ensure.
-use Rattle.meaning.specs.Walk.{recordOf}
+-- `chain::walk::record_of` meets its contract: each field is what its call ensures.
+use Rattle.chain.proofs.Coding.{to-read-few, to-read-in, record-made}
+use native.Mathlib.Omega.{arith}
+use lib.ListN.{length}
 use borrow.Author.Needs.{needs}
 use Rattle.chain.proofs.walk.record_of.Statement.{statement}
 use Rattle.chain.proofs.walk.record_of.Tie as tie
+
+early-code-requires : tie.Need-early-code-requires
+early-code-requires c κs = search needs
+
+links-to-read-requires : tie.Need-links-to-read-requires
+links-to-read-requires c κs = search needs
+
+cast-links-at : tie.Need-cast-links-at
+cast-links-at c = search needs
+
+cast-links-at-2 : tie.Need-cast-links-at-2
+cast-links-at-2 c = search needs
+
+links-at-requires : tie.Need-links-at-requires
+links-at-requires c κs = let a = c .before .before .before .before .args in
+    let e = c .before .before .early-code .result in
+    let n = c .before .links-to-read .ensures in
+    (omega (arith, n, to-read-few (a .c) e (length (a .memory .now))), λ h. omega (arith, n, to-read-in (a .c) e (length (a .memory .now)) (omega arith)))
 
 first-sector-requires : tie.Need-first-sector-requires
 first-sector-requires c κs = search needs
@@ -11,8 +31,18 @@ code-requires : tie.Need-code-requires
 code-requires c κs = search needs
 
 returns : tie.Need-returns
-unfolding recordOf
-returns c = cc
+returns c = let a = c .before .before .before .before .before .before .before .args in
+    record-made (a .memory .now) (a .c) (a .at) (a .d) (c .before .before .before .before .before .early-code .result) (c .before .before .before .before .links-to-read .result) (c .before .first-sector .result) (c .code .result) (c .before .before .links-at .result) (c .before .before .before .before .before .early-code .ensures) (c .before .before .before .before .links-to-read .ensures) (c .before .before .links-at .ensures) (c .before .first-sector .ensures) (c .code .ensures)
 
 pub record-of-spec : {M : Type 1} → statement M
-record-of-spec = tie.close (tie.spec first-sector-requires code-requires returns)
+record-of-spec =
+    tie.close
+    (tie.spec
+    early-code-requires
+    links-to-read-requires
+    cast-links-at
+    cast-links-at-2
+    links-at-requires
+    first-sector-requires
+    code-requires
+    returns)

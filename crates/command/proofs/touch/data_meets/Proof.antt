@@ -5,14 +5,14 @@ use borrow.Author.Needs.{needs}
 use Rattle.command.proofs.touch.data_meets.Statement.{statement}
 use Rattle.command.proofs.touch.data_meets.Tie as tie
 
-crosses-requires : tie.Need-crosses-requires
-crosses-requires c κs = search needs
+hulls-meet-requires : tie.Need-hulls-meet-requires
+hulls-meet-requires c κs = search needs
 
 returns : tie.Need-returns
-returns c = (c .crosses .ensures) ∙ sym (and-second _ _ (c .before .if1 .taken))
+returns c = c .hulls-meet .ensures ∙ sym (and-second _ _ (c .before .if1 .taken))
 
 returns-2 : tie.Need-returns-2
 returns-2 c = sym (and-first _ _ (c .if1 .left))
 
 pub data-meets-spec : {M : Type 1} → statement M
-data-meets-spec = tie.close (tie.spec crosses-requires returns returns-2)
+data-meets-spec = tie.close (tie.spec hulls-meet-requires returns returns-2)

@@ -1,28 +1,14 @@
 -- `command::touch::footprint_of` meets its contract: each field is what its call ensures.
-use Prim.Native.Nat.{ℕ, _*_, _≤_}
-use native.Mathlib.Omega.{arith}
-use mathlib.Core.Bool.{Bool, true, false, cond}
-use Rattle.meaning.specs.Sectors.{sectorBytes}
-use Rattle.meaning.specs.Command.{transfers}
 use Rattle.command.specs.Footprints.{footprintOf}
 use borrow.Author.Needs.{needs}
 use Rattle.command.proofs.touch.footprint_of.Statement.{statement}
 use Rattle.command.proofs.touch.footprint_of.Tie as tie
 
--- no command moves more than its count
-few : (t : Bool) (c : ℕ) → cond t c 0 ≤ c
-few true c = omega arith
-few false c = omega arith
+data-hull-requires : tie.Need-data-hull-requires
+data-hull-requires c κs = search needs
 
 moved-requires : tie.Need-moved-requires
 moved-requires c κs = search needs
-
-cast-t3 : tie.Need-cast-t3
-cast-t3 c = search needs
-
-mul-t4 : tie.Need-mul-t4
-mul-t4 c = let a = c .before .args in
-    omega (arith, (c .moved .ensures), few (transfers (a .r)) (a .r .count))
 
 steps-of-requires : tie.Need-steps-of-requires
 steps-of-requires c κs = search needs
@@ -35,15 +21,13 @@ writes-requires c κs = search needs
 
 returns : tie.Need-returns
 unfolding footprintOf
-returns c = let a = c .before .before .before .before .args in
-    let sectors = c .before .before .before .moved .ensures in
+returns c = let a = c .before .before .before .before .before .args in
     λ j.
     record {
+      hull = c .before .before .before .before .data-hull .ensures j;
       status = a .r .iopb;
-      address = a .r .address;
-      bytes = sectorBytes * sectors j;
       sector = a .r .sector;
-      sectors = sectors j;
+      sectors = c .before .before .before .moved .ensures j;
       steps = c .before .before .steps-of .ensures j;
       reads = c .before .reads .ensures j;
       writes = c .writes .ensures j;
@@ -53,9 +37,8 @@ pub footprint-of-spec : {M : Type 1} → statement M
 footprint-of-spec =
     tie.close
     (tie.spec
+    data-hull-requires
     moved-requires
-    cast-t3
-    mul-t4
     steps-of-requires
     reads-requires
     writes-requires

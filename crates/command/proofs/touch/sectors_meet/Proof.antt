@@ -9,7 +9,7 @@ crosses-requires : tie.Need-crosses-requires
 crosses-requires c κs = search needs
 
 returns : tie.Need-returns
-returns c = (c .crosses .ensures) ∙ sym (and-second _ _ (c .before .if1 .taken))
+returns c = c .crosses .ensures ∙ sym (and-second _ _ (c .before .if1 .taken))
 
 returns-2 : tie.Need-returns-2
 returns-2 c = sym (and-first _ _ (c .if1 .left))

@@ -48,7 +48,7 @@ put-count-requires-2 c κs =
       arith,
       c .before .before .before .before .before .before .before .before .before .before .pre,
       c .before .before .before .before .put-commands .ensures .1,
-      decimal-few 2 (case .0 .1 .0) (omega (arith, c .before .before .before .before .before .before .before .before .before .before .pre, ap stepsIn (case .1))),
+      decimal-few 3 (case .0 .1 .0) (omega (arith, c .before .before .before .before .before .before .before .before .before .before .pre, ap stepsIn (case .1))),
     )
 
 same-length : tie.Need-same-length

@@ -1,0 +1,71 @@
+-- `command::touch::list_meets` meets its contract: what was passed has nothing in common, so what is left decides.
+use mathlib.Core.Path.{sym, _∙_}
+use Prim.Native.Nat.{_-_}
+use native.Mathlib.Omega.{arith}
+use Rattle.meaning.specs.declared.Link.{Link}
+use Rattle.meaning.specs.Ranges.{bytes, overlap}
+use Rattle.meaning.specs.Links.{rangeOf}
+use Rattle.meaning.proofs.Links.{Sought, sought-start, sought-hit, sought-miss, sought-none}
+use borrow.Author.Needs.{needs}
+use Rattle.command.proofs.touch.list_meets.Statement.{statement}
+use Rattle.command.proofs.touch.list_meets.Tie as tie
+
+abbrev Inv-loop : tie.InvT-loop
+Inv-loop m a n list last k₀ k = Sought (λ (x : Link). overlap (bytes a n) (rangeOf x)) m list last k
+
+abbrev μ-loop : tie.MeasureT-loop
+μ-loop m a n list last k₀ k = last - k
+
+held-requires : tie.Need-held-requires Inv-loop μ-loop
+held-requires c κs = search needs
+
+loop-holds : tie.Need-loop-holds Inv-loop μ-loop
+loop-holds c = let a = c .before .args in
+    sought-start (λ (x : Link). overlap (bytes (a .a) (a .n)) (rangeOf x)) (a .m) (a .t1) (c .held .result) (c .held .ensures) (search needs)
+
+mul-link-meets : tie.Need-mul-link-meets Inv-loop μ-loop
+mul-link-meets c = search needs
+
+array-copy-out-link-meets : tie.Need-array-copy-out-link-meets Inv-loop μ-loop
+array-copy-out-link-meets c = search needs
+
+link-meets-requires : tie.Need-link-meets-requires Inv-loop μ-loop
+link-meets-requires c κs = search needs
+
+returns : tie.Need-returns Inv-loop μ-loop
+returns c = let a = c .before .before .before .before .before .before .args in
+    let k = c .before .before .before .before .loop in
+    sym (sought-hit (λ (x : Link). overlap (bytes (a .a) (a .n)) (rangeOf x)) (a .m) (a .t1) (c .before .before .before .before .before .held .result) (k .k) (k .inv) (c .before .before .before .loop-test .taken) (sym (c .before .link-meets .ensures) ∙ c .if1 .taken))
+
+add-k : tie.Need-add-k Inv-loop μ-loop
+add-k c = search needs
+
+loop-less : tie.Need-loop-less Inv-loop μ-loop
+loop-less c = omega arith
+
+loop-again : tie.Need-loop-again Inv-loop μ-loop
+loop-again c = let a = c .before .before .before .before .before .before .args in
+    let k = c .before .before .before .before .loop in
+    sought-miss (λ (x : Link). overlap (bytes (a .a) (a .n)) (rangeOf x)) (a .m) (a .t1) (c .before .before .before .before .before .held .result) (k .k) (k .inv) (c .before .before .before .loop-test .taken) (sym (c .before .link-meets .ensures) ∙ c .if1 .left)
+
+returns-2 : tie.Need-returns-2 Inv-loop μ-loop
+returns-2 c = let a = c .before .before .before .args in
+    let k = c .before .loop in
+    sym (sought-none (λ (x : Link). overlap (bytes (a .a) (a .n)) (rangeOf x)) (a .m) (a .t1) (c .before .before .held .result) (k .k) (k .inv) (c .loop-test .left))
+
+pub list-meets-spec : {M : Type 1} → statement M
+list-meets-spec =
+    tie.close
+    (tie.spec
+    Inv-loop
+    μ-loop
+    held-requires
+    loop-holds
+    mul-link-meets
+    array-copy-out-link-meets
+    link-meets-requires
+    returns
+    add-k
+    loop-less
+    loop-again
+    returns-2)

@@ -1,0 +1,87 @@
+/* The calls of the board, each with what comes of it in words. */
+#include "told.h"
+
+#include "disk.h"
+#include "words.h"
+
+#include <inttypes.h>
+#include <stdio.h>
+
+bool tell_walk(lent *host, const wish *wishes)
+{
+    rosadenca_walked walked = rosadenca_walk(host->memory, MEMORY_BYTES, host->image, DISK_BYTES, host->drive, 0, host->table,
+                                             ROSADENCA_MOST_COMMANDS);
+    host->commands = walked.commands;
+    if (walked.number != ROSADENCA_ACCEPTED) {
+        fprintf(stderr, "host: the walk was refused with number %d: %s\n", walked.number, number_in_words(walked.number));
+        return false;
+    }
+    for (size_t place = 0; place < host->commands; place++)
+        printf("  place %zu: %s\n", place, wishes[place].wants);
+    uint64_t steps = rosadenca_chain_steps(host->table, ROSADENCA_MOST_COMMANDS, host->commands);
+    printf("  together they have %" PRIu64 " steps\n", steps);
+    return true;
+}
+
+void tell_pick(lent *host, size_t place)
+{
+    uint8_t number = rosadenca_pick(host->memory, MEMORY_BYTES, host->image, DISK_BYTES, host->drive, host->table,
+                                    ROSADENCA_MOST_COMMANDS, host->commands, place);
+    if (number != ROSADENCA_ACCEPTED) {
+        printf("  pick %zu: refused with number %d: %s. Nothing has changed.\n", place, number, number_in_words(number));
+        return;
+    }
+    const rosadenca_record *record = &host->table[place];
+    rosadenca_iopb iopb = rosadenca_view(host->memory, MEMORY_BYTES, record->iopb);
+    printf("  pick %zu: one step taken, the command's step %" PRIu32, place, record->taken);
+    puts(iopb.done ? ", and it is closed." : "; it is not closed yet.");
+}
+
+bool tell_rest(lent *host)
+{
+    rosadenca_ran ran = rosadenca_run_written(host->memory, MEMORY_BYTES, host->image, DISK_BYTES, host->drive, host->table,
+                                              ROSADENCA_MOST_COMMANDS, host->commands, UINT64_MAX);
+    if (ran.number != ROSADENCA_ACCEPTED || !ran.finished) {
+        fprintf(stderr, "host: the run was refused with number %d: %s\n", ran.number, number_in_words(ran.number));
+        return false;
+    }
+    printf("  %" PRIu64 " step%s; all commands are finished.\n", ran.steps, ran.steps == 1 ? "" : "s");
+    return true;
+}
+
+void tell_statuses(const lent *host)
+{
+    puts("Each IOPB holds its status now:");
+    for (size_t place = 0; place < host->commands; place++) {
+        rosadenca_iopb iopb = rosadenca_view(host->memory, MEMORY_BYTES, (uint32_t)(IOPB_SPACING * place));
+        printf("  place %zu: DONE %d, ERRS %d, code %02X: %s\n", place, iopb.done, iopb.errs, iopb.completion,
+               code_in_words(iopb.completion));
+    }
+}
+
+/* The text at some bytes, up to its end. */
+static void print_text(const uint8_t *bytes, size_t length)
+{
+    putchar('"');
+    for (size_t k = 0; k < 60 && k < length && bytes[k] != 0; k++)
+        putchar(bytes[k] >= ' ' && bytes[k] <= '~' ? bytes[k] : '.');
+    puts("\"");
+}
+
+void tell_sector(const lent *host, uint32_t sector)
+{
+    uint8_t number = rosadenca_look_number(host->image, DISK_BYTES, host->drive, sector);
+    rosadenca_part part = rosadenca_look(host->image, DISK_BYTES, host->drive, sector);
+    if (number != ROSADENCA_ACCEPTED) {
+        printf("  sector %" PRIu32 ": refused with number %d: %s\n", sector, number, number_in_words(number));
+        return;
+    }
+    printf("  sector %" PRIu32 ": ", sector);
+    print_text(host->image + part.at, part.length);
+}
+
+void tell_memory(const lent *host, uint32_t address)
+{
+    printf("  at %" PRIX32 "H: ", address);
+    print_text(host->memory + address, MEMORY_BYTES - address);
+}

@@ -1,0 +1,39 @@
+/* The board's numbers and codes in words. */
+#include "words.h"
+
+const char *number_in_words(uint8_t number)
+{
+    switch (number) {
+    case ROSADENCA_ACCEPTED: return "accepted";
+    case ROSADENCA_SIZES_WRONG: return "memory, image or table have the wrong size, or the last head is longer than the others";
+    case ROSADENCA_ADDRESS_ODD: return "the first address is odd";
+    case ROSADENCA_IOPB_OUTSIDE: return "an IOPB is not all in memory";
+    case ROSADENCA_IOPB_SHARED: return "two IOPBs share a byte";
+    case ROSADENCA_CHAIN_TOO_LONG: return "the chain goes past 32 commands";
+    case ROSADENCA_COMMAND_WAITS: return "an earlier unfinished command conflicts with it, so it has to wait";
+    case ROSADENCA_COMMAND_FINISHED: return "that command is finished";
+    case ROSADENCA_NO_SUCH_PLACE: return "there is no such place in the table";
+    case ROSADENCA_TABLE_SPOILED: return "the table is spoiled";
+    case ROSADENCA_NO_SUCH_SECTOR: return "there is no such sector";
+    default: return "a number that the rules do not have";
+    }
+}
+
+const char *code_in_words(uint8_t code)
+{
+    switch (code) {
+    case ROSADENCA_CODE_SUCCESS: return "it went well";
+    case ROSADENCA_CODE_NEXT_ODD: return "the next address is odd";
+    case ROSADENCA_CODE_UNIMPLEMENTED: return "the board has no such command";
+    case ROSADENCA_CODE_NOT_READY: return "there is no such drive";
+    case ROSADENCA_CODE_COUNT_ZERO: return "the count of sectors is zero";
+    case ROSADENCA_CODE_CYLINDER: return "the cylinder is too high, or the drive ends too early";
+    case ROSADENCA_CODE_HEAD: return "the head is too high";
+    case ROSADENCA_CODE_SECTOR: return "the sector is too high for its head";
+    case ROSADENCA_CODE_WRITE_PROTECTED: return "the drive is protected";
+    case ROSADENCA_CODE_BUS_ERROR: return "the data, or its link list, does not fit in memory";
+    case ROSADENCA_CODE_LENGTHS: return "the lengths of the link list don't add up to the sectors";
+    case ROSADENCA_CODE_RANGE_ODD: return "a range of the link list begins at an odd address";
+    default: return "a code that the rules do not have";
+    }
+}
