@@ -48,8 +48,8 @@ enum {
     ROSADENCA_SECTOR_BYTES = 512,     /* the bytes of one sector: Board 2 */
     ROSADENCA_MOST_COMMANDS = 32,     /* the most commands of a chain, and the fewest records of a lent table: Walk 3, Size 4 */
     ROSADENCA_IOPB_BYTES = 30,        /* the bytes of one IOPB: IOPB 1 */
-    ROSADENCA_MOST_LINKS = 32,        /* the most elements of a link list, and the room of a record for their ranges: Link 1 to 8 */
-    ROSADENCA_LINK_BYTES = 8          /* the bytes of one element in memory: Link 1 to 8 */
+    ROSADENCA_MOST_LINKS = 32,        /* the most elements of a link list, and the room of a record for their ranges: Link 1 and 7 */
+    ROSADENCA_LINK_BYTES = 8          /* the bytes of one element in memory: Link 1 */
 };
 
 /* The numbers that calls answer with. */

@@ -52,6 +52,7 @@ static uint32_t digest_ranges(uint32_t before, const rosadenca_record *record)
     for (size_t k = 0; k < ROSADENCA_MOST_LINKS; k++) {
         before = digest_number(before, record->list[k].address, 4);
         before = digest_number(before, record->list[k].length, 2);
+        before = digest_number(before, record->list[k].unused, 2);
     }
     return before;
 }

@@ -3,6 +3,7 @@
 
 use crate::declared::{Drive, Link, Place, Record};
 use crate::field::Fields;
+use std::array::from_fn;
 
 /// The archive's drive, from the second program's.
 pub fn drive_of(drive: &second::drive::Drive) -> Drive {
@@ -35,10 +36,10 @@ pub fn second_place_of(place: &Place) -> second::place::Place {
     }
 }
 
-/// The archive's range of a list, from the second program's.
-fn link_of(range: second::range::Range) -> Link {
+/// The archive's range of a list, from the second program's and the unused bytes beside it.
+fn link_of(range: second::range::Range, unused: u16) -> Link {
     let length = range.length.try_into().expect("a range of a list has a length of 16 bits");
-    Link { address: range.address, length, unused: 0 }
+    Link { address: range.address, length, unused }
 }
 
 /// The second program's range, from the archive's of a list.
@@ -57,7 +58,7 @@ pub fn record_of(record: &second::record::Record) -> Record {
         count: record.count,
         byte0: record.byte0,
         code: record.code,
-        list: record.list.map(link_of),
+        list: from_fn(|k| link_of(record.list[k], record.unused[k])),
     }
 }
 
@@ -73,6 +74,7 @@ pub fn second_record_of(record: &Record) -> second::record::Record {
         code: record.code,
         ranges: record.ranges,
         list: record.list.map(second_range_of),
+        unused: record.list.map(|link| link.unused),
     }
 }
 

@@ -63,6 +63,22 @@ fn a_list_copied_wrong_is_found() {
             ..ORDINARY
         },
     );
+    must_be_found(
+        "keeps the two bytes of an element that are ignored",
+        Board {
+            walk: |memory, image, drive, start, table| {
+                let change = |memory: &[u8], record: &mut Record| {
+                    let elements = memory.get(record.address as usize..).unwrap_or_default();
+                    let kept = &mut record.list[..record.ranges as usize];
+                    for (link, element) in kept.iter_mut().zip(elements.chunks(8)) {
+                        link.unused = u16::from_be_bytes([element[2], element[3]]);
+                    }
+                };
+                walk_then(change, (memory, image, drive, start), table)
+            },
+            ..ORDINARY
+        },
+    );
 }
 
 #[test]

@@ -1,5 +1,5 @@
-//! A second, independent model of the board, written from document 01 and
-//! tickets 1 and 2 of document 02 alone. It is slow and plain on purpose: it says what
+//! A second, independent model of the board, written from document 01, tickets 1
+//! and 2 of document 02 and the manual alone. It is slow and plain on purpose: it says what
 //! the rules say, so that a faster board can be held against it, case by case.
 
 // The board and its rules.

@@ -25,6 +25,9 @@ pub struct Record {
     /// made by hand may claim more than there is room for.
     pub ranges: u32,
     pub list: [Range; MOST_ELEMENTS as usize],
+    /// Two bytes beside each range that no one looks at: 0 after a walk. They
+    /// are here for the digest, so that a board which fills them is found out.
+    pub unused: [u16; MOST_ELEMENTS as usize],
 }
 
 impl Record {

@@ -81,5 +81,6 @@ fn record_of(board: &Board, address: u64, fields: &Fields) -> Record {
         code: found.code,
         ranges: found.list.len() as u32,
         list,
+        unused: [0; MOST_ELEMENTS as usize],
     }
 }

@@ -131,17 +131,17 @@ written 5
 ";
 
 const WORKED_ANSWERS: &str = "case 1
-walk 0 2 90fa2ead 743661c5 efb81cad
+walk 0 2 90fa2ead 743661c5 5e8ecead
 steps 2
-pick 6 90fa2ead 743661c5 efb81cad
-pick 0 7344e078 743661c5 403e9080
+pick 6 90fa2ead 743661c5 5e8ecead
+pick 0 7344e078 743661c5 1b96fa80
 fields 0 1 1 0 2 0 0 1 1 0 0 0 1 0 0 1 512 32
-picks 0 1 2 1 d20f30c3 498e2dc5 3d9bb533
+picks 0 1 2 1 d20f30c3 498e2dc5 ad1a6c33
 look 0 512 cd3565c5
 look 0 512 cd3565c5
 look 10 0 811c9dc5
 view 2 0 0 0 0 0 0 0 0 0 0 0 0 0 0 0 0 0 0
-written 0 0 1 d20f30c3 498e2dc5 3d9bb533
+written 0 0 1 d20f30c3 498e2dc5 ad1a6c33
 ";
 
 const LIST_CASE: &str = "case 2
@@ -149,7 +149,7 @@ drive 0 0 1 1 0
 memory 1024 0 0
 image 1024 7 1 1
 put 0 18 0 0 0 0 0 16 0 0 1 0 0 0 1 0 0 0 0 0 64
-put 64 0 100 0 0 0 0 2 0 1 156 0 0 0 0 1 0
+put 64 0 100 229 214 0 0 2 0 1 156 229 214 0 0 1 0
 walk 0
 pick 0
 record 1 32 64 1 0 1 2 0 2
@@ -162,10 +162,10 @@ pick 1
 ";
 
 const LIST_ANSWERS: &str = "case 2
-walk 0 1 762f5a09 ce2459c5 a593a577
-pick 0 d9d2f82e ce2459c5 f61a194a
-pick 9 d9d2f82e ce2459c5 f4f45f49
-pick 0 131abf7b ce2459c5 37d83cbf
+walk 0 1 b22d0ee7 ce2459c5 dcdea247
+pick 0 15d0ad0c ce2459c5 99e6ce1a
+pick 9 15d0ad0c ce2459c5 76056061
+pick 0 4f187459 ce2459c5 01e2035f
 ";
 
 /// What a run of cases prints.
@@ -191,5 +191,5 @@ fn ranges_in_the_digest() {
     let answers = played(&format!("{ground}{ranges}{more}"));
     let tables: Vec<&str> =
         answers.lines().skip(1).filter_map(|line| line.split(' ').last()).collect();
-    assert_eq!(tables, ["2b79dba2", "8742ccb2", "d61df8cd"]);
+    assert_eq!(tables, ["9fa81282", "7c0ff392", "9a61f8cd"]);
 }

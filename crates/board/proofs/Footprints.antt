@@ -18,7 +18,8 @@ use Rattle.command.specs.declared.touch.Footprint.{Footprint}
 use Rattle.command.specs.Footprints.{noFootprint, footprintOf, footprintsMeet}
 use Rattle.command.proofs.Touching.{no-conflict}
 use Rattle.board.specs.Changes.{withTaken}
-use Rattle.board.proofs.Searching.{blocking, finished-free, by-conflict}
+use Rattle.board.specs.Sight.{blocking}
+use Rattle.board.proofs.Searching.{finished-free, by-conflict}
 
 -- of the first k records of t
 pub record Footprinted (t : List Record) (fs : List Footprint) (k : ℕ) : Type 0 where

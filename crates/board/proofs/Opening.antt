@@ -12,35 +12,28 @@ use lib.Dec.{ltb}
 use Rattle.meaning.specs.declared.Drive.{Drive}
 use Rattle.meaning.specs.declared.Record.{Record}
 use Rattle.meaning.specs.Each.{someOf, sumOf}
-use Rattle.meaning.specs.Store.{Store, lent}
+use Rattle.meaning.specs.Store.{memory, lent}
 use Rattle.meaning.specs.State.{State, stateOf, mostCommands}
 use Rattle.meaning.specs.Sizes.{storeWrong}
 use Rattle.meaning.specs.Command.{remaining, noRecord}
-use Rattle.meaning.specs.Pick.{badRecord, spoiled}
+use Rattle.meaning.specs.Pick.{spoiled}
 use Rattle.meaning.specs.Run.{stepsLeft, runNumber}
+use Rattle.meaning.proofs.Rows.{or-false}
 use Rattle.meaning.proofs.Tests.{or-no}
 use Rattle.meaning.proofs.Means.{Means, holds, fails, means-lt}
 use Rattle.meaning.proofs.Numbers.{run-passed}
+use Rattle.command.specs.Data.{badIn}
+use Rattle.command.proofs.Data.{bad-in}
 use Rattle.board.specs.declared.run.Seen.{Seen}
 use Rattle.board.specs.Changes.{takenOf, handed}
 use Rattle.board.specs.Opening.{seenWith, firstNumber}
 use Rattle.board.proofs.Searching.{some-append}
-use Rattle.board.proofs.Picking.{sizes-handed, all-handed, by-memory}
+use Rattle.board.proofs.Picking.{sizes-handed, all-handed}
 use Rattle.board.proofs.Taken.{taken-append}
 
 sum-append : {A : Type 0} (f : A → ℕ) (xs ys : List A) → sumOf f (xs ++ ys) ≡ sumOf f xs + sumOf f ys
 sum-append f [] ys = omega arith
 sum-append f (x ∷ xs) ys = omega (arith, sum-append f xs ys)
-
--- what the code makes of one record
-module _ (d : Drive) (s : Store) (b : Bool) (r : Record) (x : Seen) where
-  pub unused-seen : b ≡ false → x ≡ seenWith d s b r x
-  unfolding seenWith
-  unused-seen e = rw e refl
-
-  pub used-seen : (l : ℕ) (q : Bool) → b ≡ true → l ≡ x .left + remaining r → q ≡ (x .spoiled || badRecord d s r) → record { left = l; spoiled = q } ≡ seenWith d s b r x
-  unfolding seenWith
-  used-seen l q e el eq = rw e (λ j. record { left = el j; spoiled = eq j })
 
 -- k records are seen, of those of s; n are in use
 pub record Opened (d : Drive) (n : ℕ) (s : State) (taken : List ℕ) (seen : Seen) (k : ℕ) : Type 0 where
@@ -50,7 +43,7 @@ pub record Opened (d : Drive) (n : ℕ) (s : State) (taken : List ℕ) (seen : S
   pub filled : take k taken ≡ takenOf (take k (s .table))
   pub small : seen .left ≤ 4_294_967_295 * k
   pub sum : seen .left ≡ sumOf remaining (take k (take n (s .table)))
-  pub bad : seen .spoiled ≡ (ltb mostCommands n || someOf (badRecord d (s .store)) (take k (take n (s .table))))
+  pub bad : seen .spoiled ≡ (ltb mostCommands n || someOf (badIn (length (s .store memory)) d) (take k (take n (s .table))))
 
 pub opened-begin : (d : Drive) (n : ℕ) (s : State) (taken : List ℕ) → length taken ≡ mostCommands → length (s .table) ≡ mostCommands
     → Opened d n s taken (record { left = 0; spoiled = ltb mostCommands n }) 0
@@ -70,7 +63,7 @@ module _ (d : Drive) (n : ℕ) (m i : List ℕ) (t : List Record) (taken : List 
   here = getD t k noRecord
 
   abbrev isBad : Record → Bool
-  isBad = badRecord d (lent m i)
+  isBad = badIn (length m) d
 
   -- the records in use of the first k + 1: one more, or the same
   used-more : k < mostCommands → k < n → take (k + 1) (take n t) ≡ take k (take n t) ++ here ∷ []
@@ -100,13 +93,9 @@ module _ (d : Drive) (n : ℕ) (m i : List ℕ) (t : List Record) (taken : List 
     w .bad ∙ ap (λ (rs : List Record). ltb mostCommands n || someOf isBad rs) (sym (used-same (omega arith))),
   )
 
-  pub opened-more : (x : Seen) → k < mostCommands → x ≡ seenWith d (lent m []) (ltb k n) here seen → x .left ≤ seen .left + 4_294_967_295
+  pub opened-more : (x : Seen) → k < mostCommands → x ≡ seenWith (ltb k n) (badIn (length m) d here) (remaining here) seen → x .left ≤ seen .left + 4_294_967_295
       → Opened d n (stateOf m i t) (set taken k (here .taken)) x (k + 1)
-  unfolding seenWith
   opened-more x h e l =
-      let same : x ≡ cond (ltb k n) (record { left = seen .left + remaining here; spoiled = seen .spoiled || isBad here }) seen =
-      e ∙ ap (λ (b : Bool). cond (ltb k n) (record { left = seen .left + remaining here; spoiled = seen .spoiled || b }) seen) (by-memory d m i here)
-      in
       let both = one-seen h (means-lt k n) in
       record {
         most = omega arith;
@@ -120,8 +109,8 @@ module _ (d : Drive) (n : ℕ) (m i : List ℕ) (t : List Record) (taken : List 
             ∙ ap takenOf (sym (take-suc t k noRecord (omega (arith, w .full))))
             ∙ ap (λ (j : ℕ). takenOf (take j t)) (sym (add-one k));
         small = omega (arith, w .small);
-        sum = ap (λ (y : Seen). y .left) same ∙ both .0;
-        bad = ap (λ (y : Seen). y .spoiled) same ∙ both .1;
+        sum = ap (λ (y : Seen). y .left) e ∙ both .0;
+        bad = ap (λ (y : Seen). y .spoiled) e ∙ both .1;
       }
 
   -- all records are seen
@@ -139,20 +128,25 @@ module _ (d : Drive) (n : ℕ) (m i : List ℕ) (t : List Record) (taken : List 
     unfolding stepsLeft
     all-left = w .sum ∙ ap (sumOf remaining) all-used
 
-    pub all-seen : seen .spoiled ≡ spoiled d n (stateOf m i t)
+    -- where sizes are right, what was tested of the records is what number 9 asks
+    all-seen : storeWrong d (lent m i) ≡ false → seen .spoiled ≡ spoiled d n (stateOf m i t)
     unfolding spoiled
-    all-seen = w .bad ∙ ap (λ (rs : List Record). ltb mostCommands n || someOf isBad rs) all-used
+    all-seen right =
+        w .bad
+        ∙ ap (λ (rs : List Record). ltb mostCommands n || someOf isBad rs) all-used
+        ∙ sym (λ j. ltb mostCommands n || someOf (λ r. bad-in d (lent m i) right r j) (take n t))
 
     -- and so the run's number is known
     pub first-is-run : (many : ℕ) → firstNumber d many (seen .spoiled) (lent m i) ≡ runNumber d n (handed many (stateOf m i t))
     unfolding runNumber
-    first-is-run many =
-        ap (λ (b : Bool). firstNumber d many b (lent m i)) all-seen
-        ∙ go (storeWrong d (lent m i) || ltb many mostCommands) refl
+    first-is-run many = go (storeWrong d (lent m i) || ltb many mostCommands) refl
       where
-        go : (b : Bool) → (storeWrong d (lent m i) || ltb many mostCommands) ≡ b → firstNumber d many (spoiled d n (stateOf m i t)) (lent m i) ≡ runNumber d n (handed many (stateOf m i t))
+        go : (b : Bool) → (storeWrong d (lent m i) || ltb many mostCommands) ≡ b → firstNumber d many (seen .spoiled) (lent m i) ≡ runNumber d n (handed many (stateOf m i t))
         go true e = rw (sizes-handed d many (stateOf m i t) (w .full), e) refl
-        go false e = rw (sizes-handed d many (stateOf m i t) (w .full), e) (ap (λ (x : State). cond (spoiled d n x) 9 0) (sym (all-handed d many (stateOf m i t) (w .full) e)))
+        go false e =
+            let right = or-false (storeWrong d (lent m i)) (ltb many mostCommands) e .0 in
+            rw (sizes-handed d many (stateOf m i t) (w .full), e)
+            (ap (λ (b : Bool). cond b 9 0) (all-seen right) ∙ ap (λ (x : State). cond (spoiled d n x) 9 0) (sym (all-handed d many (stateOf m i t) (w .full) e)))
 
     -- a run that is not refused has been handed all of its table
     module _ (many k₁ : ℕ) (e : k₁ ≡ firstNumber d many (seen .spoiled) (lent m i)) where

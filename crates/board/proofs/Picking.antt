@@ -1,28 +1,34 @@
--- The numbers of a pick in their order, as the code tests them; what is handed over of a caller's table; and what a pick changes, refused
--- and accepted.
-use mathlib.Core.Path.{_≡_, refl, sym, ap, _∙_, subst}
-use Prim.Native.Nat.{ℕ, _≤_, _<_}
+-- The numbers of a pick in their order, as the code tests them; what is handed over of a caller's table; that what a pick sees of its table
+-- decides its number; and what it changes, refused and accepted.
+use mathlib.Core.Path.{_≡_, refl, sym, ap, ap₂, _∙_, subst, subst₂}
+use Prim.Native.Nat.{ℕ, _+_, _≤_, _<_, min}
 use native.Mathlib.Omega.{arith}
-use mathlib.Core.Bool.{Bool, true, false, _||_}
-use mathlib.Core.List.{List, []}
-use lib.ListN.{length, getD, take, length-take}
+use mathlib.Core.Bool.{Bool, true, false, _||_, cond}
+use mathlib.Core.List.{List}
+use lib.ListN.{length, getD, set, take, length-take}
 use lib.Seq.{take-all}
 use lib.Dec.{ltb, leb, eqb}
-use borrow.Author.Tests.{lt-ltb, le-ltb, ltb-false, le-leb, lt-leb, eq-eqb, ne-eqb}
+use borrow.Author.Tests.{lt-ltb, le-ltb, ltb-false, le-leb, lt-leb, eq-eqb, ne-eqb, eqb-true}
 use Rattle.meaning.specs.declared.Drive.{Drive}
 use Rattle.meaning.specs.declared.Record.{Record}
 use Rattle.meaning.specs.Each.{someOf}
 use Rattle.meaning.specs.Store.{Store, lent}
-use Rattle.meaning.specs.State.{State, mostCommands}
+use Rattle.meaning.specs.State.{State, mostCommands, stateOf}
 use Rattle.meaning.specs.Sizes.{storeWrong, sizesWrong}
-use Rattle.meaning.specs.Command.{finished, noRecord, blankRecord}
-use Rattle.meaning.specs.Step.{step, stepped}
-use Rattle.meaning.specs.Pick.{badTransfer, badRecord, spoiled, waits, placeNumber, pickNumber, stepAt, picked}
+use Rattle.meaning.specs.Command.{finished, noRecord}
+use Rattle.meaning.specs.Step.{step}
+use Rattle.meaning.specs.Pick.{badRecord, spoiled, waits, placeNumber, pickNumber, stepAt, picked, PickGives}
 use Rattle.meaning.proofs.Rows.{pass, stop, or-first, or-second, or-false}
-use Rattle.meaning.proofs.Means.{Means, holds, fails, means-lt}
-use Rattle.meaning.proofs.Numbers.{full-table}
-use Rattle.board.specs.declared.pick.PickedRecord.{PickedRecord}
-use Rattle.board.specs.Changes.{handed, refusedPick, pickChanges, PickChanges}
+use Rattle.meaning.proofs.Means.{Means, holds, fails, means-lt, means-le}
+use Rattle.meaning.proofs.Numbers.{full-table, pick-passed, place-free, most-32}
+use Rattle.command.specs.Data.{badIn}
+use Rattle.command.proofs.Data.{bad-in}
+use Rattle.board.specs.declared.pick.Sight.{Sight}
+use Rattle.board.specs.declared.pick.PickedTaken.{PickedTaken}
+use Rattle.board.specs.Changes.{withTaken, handed}
+use Rattle.board.specs.Sight.{placeSeen, blocking, sightOf, sightNumber, refusedPick, PickSees, withPicked}
+use Rattle.board.proofs.Searching.{none-here}
+use Rattle.board.proofs.Taken.{with-next}
 
 -- ---- numbers
 
@@ -62,11 +68,6 @@ pub by-records : (d : Drive) (n : ℕ) (s : State) → n ≤ mostCommands → sp
 unfolding spoiled
 by-records d n s h = or-second (ltb mostCommands n) _ (le-ltb mostCommands n h)
 
--- a record is bad by what memory has; the image plays no part
-pub by-memory : (d : Drive) (m i : List ℕ) (r : Record) → badRecord d (lent m []) r ≡ badRecord d (lent m i) r
-unfolding badRecord badTransfer
-by-memory d m i r = refl
-
 -- ---- what is handed over
 
 module _ (d : Drive) (many : ℕ) (s : State) (full : length (s .table) ≡ mostCommands) where
@@ -92,24 +93,179 @@ module _ (d : Drive) (many : ℕ) (s : State) (full : length (s .table) ≡ most
     pub sizes-right : sizesWrong d s ≡ false
     sizes-right = full-table d s (omega arith) ∙ or-false (storeWrong d (s .store)) (ltb many mostCommands) right .0
 
--- ---- what a pick changes
+-- ---- what a pick sees of its table is enough for its number
 
-module _ (d : Drive) (n p many : ℕ) (s : State) where
-  pub refused-changes : (k : ℕ) (r : PickedRecord) → r ≡ refusedPick k → pickNumber d n p (handed many s) ≡ k → (k ≡ 0 → ⊥) → PickChanges d n p many s r (s .store)
-  unfolding PickChanges pickChanges picked
-  refused-changes k r er e h =
-      let u = handed many s in
-      let off = ne-eqb (pickNumber d n p u) 0 (λ q. h (sym e ∙ q)) in
-      let none = pass (eqb (pickNumber d n p u) 0) (stepped (getD (u .table) p noRecord)) blankRecord off in
-      let same : refusedPick k ≡ pickChanges d n p u = λ j. record { number = sym e j; after = sym none j } in
-      (er ∙ same, sym (ap (λ (x : State). x .store) (pass _ _ _ off)))
+-- the place that is looked at is one of the 32
+pub seen-small : (p q : ℕ) → q ≡ placeSeen p → q < mostCommands
+seen-small p q e = subst (_< mostCommands) (sym e) (go (means-lt p mostCommands))
+  where
+    go : {b : Bool} → Means (p < mostCommands) b → cond b p 0 < mostCommands
+    go (holds h) = h
+    go (fails h) = omega arith
 
-  -- the record at p after its step, and the store
-  pub accepted-changes : (r : Record) (u : Store) → handed many s ≡ s → pickNumber d n p s ≡ 0 → r ≡ stepped (getD (s .table) p noRecord)
-      → u ≡ step d (getD (s .table) p noRecord) (s .store) → PickChanges d n p many s (record { number = 0; after = r }) u
-  unfolding PickChanges pickChanges picked stepAt
-  accepted-changes r u same e er eu =
-      let on = eq-eqb (pickNumber d n p s) 0 e in
-      let done = er ∙ sym (stop (eqb (pickNumber d n p s) 0) (stepped (getD (s .table) p noRecord)) blankRecord on) in
-      subst (λ (x : State). (record { number = 0; after = r } ≡ pickChanges d n p x) × (u ≡ picked d n p x .store)) (sym same)
-      (λ j. record { number = sym e j; after = done j }, eu ∙ sym (ap (λ (x : State). x .store) (stop _ _ _ on)))
+module _ (d : Drive) (n p : ℕ) (m i : List ℕ) (t : List Record) (long : mostCommands ≤ length t) where
+  abbrev whole : State
+  whole = stateOf m i t
+
+  abbrev here : Record
+  here = getD t (placeSeen p) noRecord
+
+  abbrev seen : Sight
+  seen = sightOf (length m) d (min n mostCommands) (placeSeen p) t
+
+  -- where sizes are right, what was tested of the records is what number 9 asks
+  bad-is : storeWrong d (lent m i) ≡ false → (k : ℕ) → someOf (badIn (length m) d) (take k t) ≡ someOf (badRecord d (lent m i)) (take k t)
+  bad-is right k = sym (λ j. someOf (λ r. bad-in d (lent m i) right r j) (take k t))
+
+  -- a place that is in use: the rows after 8, of the record there and of the commands before it
+  abbrev last-rows : ℕ → ℕ → ℕ
+  last-rows q k =
+      cond (finished (getD t q noRecord)) 7 (cond (someOf (blocking (getD t q noRecord)) (take k t)) 6 (cond (badRecord d (lent m i) (getD t q noRecord)) 9 0))
+
+  in-place : p < n → n ≤ mostCommands → someOf (badRecord d (lent m i)) (take n t) ≡ false
+      → last-rows (placeSeen p) (min (min n mostCommands) (placeSeen p)) ≡ cond (finished (getD t p noRecord)) 7 (cond (waits t p) 6 0)
+  unfolding waits
+  in-place h few sound =
+      let own : placeSeen p ≡ p = stop (ltb p mostCommands) p 0 (lt-ltb p mostCommands (omega arith)) in
+      let before : min (min n mostCommands) (placeSeen p) ≡ p = omega (arith, own) in
+      let good = none-here noRecord (badRecord d (lent m i)) t p n h (omega arith) sound in
+      ap₂ last-rows own before
+      ∙ ap (λ (k : ℕ). cond (finished (getD t p noRecord)) 7 (cond (waits t p) 6 k)) (pass (badRecord d (lent m i) (getD t p noRecord)) 9 0 good)
+
+  abbrev after-sizes : ℕ
+  after-sizes = cond (ltb mostCommands n) 9 (cond (seen .bad) 9 (cond (leb n p) 8 (cond (finished here) 7 (cond (seen .blocked) 6 (cond (badRecord d (lent m i) here) 9 0)))))
+
+  abbrev Rest : ℕ → Type 0
+  Rest k = k ≡ cond (spoiled d n whole) 9 (placeNumber t n p)
+
+  placed : n ≤ mostCommands → (b : Bool) → someOf (badRecord d (lent m i)) (take n t) ≡ b
+      → {c : Bool} → Means (n ≤ p) c → Rest (cond b 9 (cond c 8 (last-rows (placeSeen p) (min (min n mostCommands) (placeSeen p)))))
+  unfolding placeNumber
+  placed few true e c = sym (stop _ _ _ (by-records d n whole few ∙ e))
+  placed few false e (holds h) = sym (pass _ _ _ (by-records d n whole few ∙ e) ∙ no-place t n p h)
+  placed few false e (fails h) = in-place (omega arith) few e ∙ sym (pass _ _ _ (by-records d n whole few ∙ e) ∙ pass (leb n p) _ _ (lt-leb n p (omega arith)))
+
+  rest-is : storeWrong d (lent m i) ≡ false → {b : Bool} → Means (mostCommands < n) b → Rest after-sizes
+  unfolding sightOf
+  rest-is right (holds h) = stop _ _ _ (lt-ltb mostCommands n h) ∙ sym (stop _ _ _ (over-most d n whole h))
+  rest-is right (fails h) =
+      let few : min n mostCommands ≡ n = omega arith in
+      let bad : seen .bad ≡ someOf (badRecord d (lent m i)) (take n t) = ap (λ (k : ℕ). someOf (badIn (length m) d) (take k t)) few ∙ bad-is right n in
+      pass _ _ _ (le-ltb mostCommands n (omega arith))
+      ∙ ap (λ (b : Bool). cond b 9 (cond (leb n p) 8 (last-rows (placeSeen p) (min (min n mostCommands) (placeSeen p))))) bad
+      ∙ placed (omega arith) (someOf (badRecord d (lent m i)) (take n t)) refl (means-le n p)
+
+  pub same-number : sightNumber d n p here seen (lent m i) ≡ pickNumber d n p whole
+  unfolding sightNumber pickNumber
+  same-number = go (storeWrong d (lent m i)) refl ∙ ap (λ (b : Bool). cond b 1 (cond (spoiled d n whole) 9 (placeNumber t n p))) (sym (full-table d whole long))
+    where
+      go : (b : Bool) → storeWrong d (lent m i) ≡ b → cond (storeWrong d (lent m i)) 1 after-sizes ≡ cond (storeWrong d (lent m i)) 1 (cond (spoiled d n whole) 9 (placeNumber t n p))
+      go true e = stop _ _ _ e ∙ sym (stop _ _ _ e)
+      go false e = ap (λ (k : ℕ). cond (storeWrong d (lent m i)) 1 k) (rest-is e (means-lt mostCommands n))
+
+  -- an accepted pick is at a place in use
+  pub accepted-place : pickNumber d n p whole ≡ 0 → (placeSeen p ≡ p) × (p < length t)
+  accepted-place e =
+      let passed = pick-passed d n whole p e in
+      let few = most-32 d n whole (passed .0) in
+      let h = place-free t n p (passed .1) in
+      (stop (ltb p mostCommands) p 0 (lt-ltb p mostCommands (omega (arith, few, h .inUse))), omega (arith, few, h .inUse))
+
+  -- so what it answers and changes is the whole of the pick
+  pub seen-gives : (a : PickedTaken) (u : Store) → PickSees d n p here seen (lent m i) a u
+      → PickGives d n p whole (a .number) (record { table = withPicked a p t; store = u })
+  unfolding PickGives PickSees picked stepAt
+  seen-gives a u g = (ap (λ (x : PickedTaken). x .number) (g .0) ∙ same-number, go (eqb (pickNumber d n p whole) 0) refl)
+    where
+      number : eqb (a .number) 0 ≡ eqb (pickNumber d n p whole) 0
+      number = ap (λ (x : PickedTaken). eqb (x .number) 0) (g .0) ∙ ap (λ (k : ℕ). eqb k 0) same-number
+
+      go : (b : Bool) → eqb (pickNumber d n p whole) 0 ≡ b → record { table = withPicked a p t; store = u } ≡ picked d n p whole
+      go true e =
+          let at = accepted-place (eqb-true _ _ e) .0 in
+          let on = ap (λ (k : ℕ). eqb k 0) same-number ∙ e in
+          let taken : a .taken ≡ getD t p noRecord .taken + 1 = ap (λ (x : PickedTaken). x .taken) (g .0) ∙ stop _ _ _ on ∙ ap (λ (q : ℕ). getD t q noRecord .taken + 1) at in
+          let table-is = stop _ _ _ (number ∙ e) ∙ ap (λ (k : ℕ). set t p (withTaken k (getD t p noRecord))) taken ∙ ap (set t p) (with-next (getD t p noRecord)) in
+          let store-is = g .1 ∙ stop _ _ _ on ∙ ap (λ (q : ℕ). step d (getD t q noRecord) (lent m i)) at in
+          (λ j. record { table = table-is j; store = store-is j }) ∙ sym (stop _ _ _ e)
+      go false e =
+          let table-is = pass _ _ _ (number ∙ e) in
+          let store-is = g .1 ∙ pass _ _ _ (ap (λ (k : ℕ). eqb k 0) same-number ∙ e) in
+          (λ j. record { table = table-is j; store = store-is j }) ∙ sym (pass _ _ _ e)
+
+  -- the same as the code has it: `at` is the place looked at, `used` are the records in use, and x is what is seen
+  module _ (at used : ℕ) (x : Sight) (ea : at ≡ placeSeen p) (eu : used ≡ min n mostCommands) (ex : x ≡ sightOf (length m) d used at t)
+      (a : PickedTaken) (u : Store) (g : PickSees d n p (getD t at noRecord) x (lent m i) a u) where
+    sees : PickSees d n p here seen (lent m i) a u
+    sees = subst₂ (λ (q : ℕ) (y : Sight). PickSees d n p (getD t q noRecord) y (lent m i) a u) ea (ex ∙ ap₂ (λ (k q : ℕ). sightOf (length m) d k q t) eu ea) g
+
+    pub whole-pick : PickGives d n p whole (a .number) (record { table = withPicked a p t; store = u })
+    whole-pick = seen-gives a u sees
+
+    pub picked-at : a .number ≡ 0 → (at ≡ p) × (p < length t)
+    unfolding PickGives
+    picked-at e = let q = accepted-place (sym (whole-pick .0) ∙ e) in (ea ∙ q .0, q .1)
+
+    -- the steps are laid at the place looked at, or nothing is laid
+    pub laid-there : (v : List Record) → v ≡ set t at (withTaken (a .taken) (getD t at noRecord)) → a .number ≡ 0 → PickGives d n p whole (a .number) (record { table = v; store = u })
+    laid-there v e on =
+        subst (λ (z : List Record). PickGives d n p whole (a .number) (record { table = z; store = u }))
+        (sym (e ∙ ap (λ (q : ℕ). set t q (withTaken (a .taken) (getD t q noRecord))) (picked-at on .0) ∙ sym (stop (eqb (a .number) 0) _ t (eq-eqb (a .number) 0 on)))) whole-pick
+
+    pub left-alone : (a .number ≡ 0 → ⊥) → PickGives d n p whole (a .number) (record { table = t; store = u })
+    left-alone off = subst (λ (z : List Record). PickGives d n p whole (a .number) (record { table = z; store = u })) (pass (eqb (a .number) 0) _ t (ne-eqb (a .number) 0 off)) whole-pick
+
+-- ---- what a pick answers and changes by what it sees
+
+module _ (d : Drive) (n p : ℕ) (r : Record) (seen : Sight) (s : Store) where
+  -- each number, once the tests before it are passed
+  abbrev number : ℕ
+  number = sightNumber d n p r seen s
+
+  pub wrong-sizes : storeWrong d s ≡ true → number ≡ 1
+  unfolding sightNumber
+  wrong-sizes e = stop _ _ _ e
+
+  module _ (right : storeWrong d s ≡ false) where
+    pub too-many : mostCommands < n → number ≡ 9
+    unfolding sightNumber
+    too-many h = pass _ _ _ right ∙ stop _ _ _ (lt-ltb mostCommands n h)
+
+    module _ (few : n ≤ mostCommands) where
+      unspoiled : number ≡ cond (seen .bad) 9 (cond (leb n p) 8 (cond (finished r) 7 (cond (seen .blocked) 6 (cond (badRecord d s r) 9 0))))
+      unfolding sightNumber
+      unspoiled = pass _ _ _ right ∙ pass _ _ _ (le-ltb mostCommands n few)
+
+      pub some-bad : seen .bad ≡ true → number ≡ 9
+      some-bad e = unspoiled ∙ stop _ _ _ e
+
+      module _ (sound : seen .bad ≡ false) where
+        pub not-there : n ≤ p → number ≡ 8
+        not-there h = unspoiled ∙ pass _ _ _ sound ∙ stop _ _ _ (le-leb n p h)
+
+        module _ (in-use : p < n) where
+          there : number ≡ cond (finished r) 7 (cond (seen .blocked) 6 (cond (badRecord d s r) 9 0))
+          there = unspoiled ∙ pass _ _ _ sound ∙ pass _ _ _ (lt-leb n p in-use)
+
+          pub at-end : finished r ≡ true → number ≡ 7
+          at-end e = there ∙ stop _ _ _ e
+
+          module _ (unfinished : finished r ≡ false) where
+            pub kept-waiting : seen .blocked ≡ true → number ≡ 6
+            kept-waiting e = there ∙ pass _ _ _ unfinished ∙ stop _ _ _ e
+
+            pub goes-by : seen .blocked ≡ false → (b : Bool) → badRecord d s r ≡ b → number ≡ cond b 9 0
+            goes-by e b f = there ∙ pass _ _ _ unfinished ∙ pass _ _ _ e ∙ ap (λ (x : Bool). cond x 9 0) f
+
+  pub refused-sees : (k : ℕ) (a : PickedTaken) → a ≡ refusedPick k → sightNumber d n p r seen s ≡ k → (k ≡ 0 → ⊥) → PickSees d n p r seen s a s
+  unfolding PickSees
+  refused-sees k a ea e h =
+      let off = ne-eqb (sightNumber d n p r seen s) 0 (λ q. h (sym e ∙ q)) in
+      let none = pass (eqb (sightNumber d n p r seen s) 0) (r .taken + 1) 0 off in
+      (ea ∙ (λ j. record { number = sym e j; taken = sym none j }), sym (pass _ _ _ off))
+
+  pub accepted-sees : (u : Store) → sightNumber d n p r seen s ≡ 0 → u ≡ step d r s → PickSees d n p r seen s (record { number = 0; taken = r .taken + 1 }) u
+  unfolding PickSees
+  accepted-sees u e eu =
+      let on = eq-eqb (sightNumber d n p r seen s) 0 e in
+      (λ j. record { number = sym e j; taken = sym (stop (eqb (sightNumber d n p r seen s) 0) (r .taken + 1) 0 on) j }, eu ∙ sym (stop _ _ _ on))

@@ -4,7 +4,7 @@ use mathlib.Core.Path.{_≡_, refl, sym, ap, _∙_}
 use Prim.Native.Nat.{ℕ, zero, suc, _+_, _≤_, _<_}
 use native.Mathlib.Numerals.{add-one}
 use native.Mathlib.Omega.{arith}
-use mathlib.Core.Bool.{Bool, true, false, not, _&&_, _||_, or-assoc}
+use mathlib.Core.Bool.{Bool, true, false, not, _&&_, _||_, or-assoc, true≢false}
 use mathlib.Core.List.{List, [], _∷_, _++_}
 use lib.ListN.{length, getD, set, take, replicate, length-set}
 use lib.Seq.{take-suc, take-set-le, getD-set-same, getD-set-other}
@@ -18,6 +18,7 @@ use Rattle.meaning.specs.Pick.{waits}
 use Rattle.meaning.proofs.Rows.{or-none, or-false, and-first, and-second}
 use Rattle.meaning.proofs.Tests.{and-no}
 use Rattle.meaning.proofs.Means.{Means, holds, fails, is-true, means-itself, means-eq, means-some}
+use Rattle.board.specs.Sight.{blocking}
 
 -- ---- a search from the front
 
@@ -38,6 +39,14 @@ module _ {A : Type 0} (z : A) (f : A → Bool) where
   pub some-here : (l : List A) (k p : ℕ) → k < p → k < length l → f (getD l k z) ≡ true → someOf f (take p l) ≡ true
   some-here l k p h g e = is-true (means-some (λ x. means-itself (f x)) z p l) (k, h, g, e)
 
+  -- none of them does, so not this one
+  pub none-here : (l : List A) (k p : ℕ) → k < p → k < length l → someOf f (take p l) ≡ false → f (getD l k z) ≡ false
+  none-here l k p h g e = go (f (getD l k z)) refl
+    where
+      go : (b : Bool) → f (getD l k z) ≡ b → b ≡ false
+      go true t = absurd (true≢false (sym (some-here l k p h g t) ∙ e))
+      go false t = refl
+
   -- an element is replaced by one that passes no test that the old one failed
   none-set : (l : List A) (n q : ℕ) (y : A) → (f (getD l q z) ≡ false → f y ≡ false) → someOf f (take n l) ≡ false → someOf f (take n (set l q y)) ≡ false
   none-set [] n q y h e = e
@@ -46,10 +55,6 @@ module _ {A : Type 0} (z : A) (f : A → Bool) where
   none-set (x ∷ l) (suc n) (suc q) y h e = let g = or-false (f x) (someOf f (take n l)) e in or-none _ _ (g .0) (none-set l n q y h (g .1))
 
 -- ---- who blocks whom
-
--- an earlier command e makes r wait
-abbrev pub blocking : Record → Record → Bool
-blocking r e = not (finished e) && conflict e r
 
 -- a finished command blocks nothing, and any other by its conflict
 pub finished-free : (r e : Record) → finished e ≡ true → blocking r e ≡ false

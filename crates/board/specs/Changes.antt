@@ -1,22 +1,18 @@
--- What a pick and a run answer and change, beneath the face that takes a table by value and the one that takes it lent: of a pick the
--- record at its place, of a run the steps taken of each record. s is the state of 32 records that they are handed, `length` how many
--- records the caller's table has, and u the store after. The crate `tables` says what this gives of the caller's whole table.
+-- What a run answers and changes, beneath the face that takes a table by value and the one that takes it lent: the steps taken of each
+-- record. s is the state of 32 records that it is handed, `length` how many records the caller's table has, and u the store after. The
+-- crate `tables` says what this gives of the caller's whole table.
 use mathlib.Core.Path.{_≡_}
 use Prim.Native.Nat.{ℕ}
 use mathlib.Core.Bool.{false, cond}
 use mathlib.Core.List.{List, [], _∷_}
-use lib.ListN.{getD, take}
+use lib.ListN.{take}
 use lib.Dec.{eqb}
 use Rattle.meaning.specs.declared.Drive.{Drive}
 use Rattle.meaning.specs.declared.Record.{Record}
 use Rattle.meaning.specs.declared.Ran.{Ran}
 use Rattle.meaning.specs.Store.{Store}
 use Rattle.meaning.specs.State.{State}
-use Rattle.meaning.specs.Command.{noRecord, blankRecord}
-use Rattle.meaning.specs.Step.{stepped}
-use Rattle.meaning.specs.Pick.{pickNumber, picked}
 use Rattle.meaning.specs.Run.{Tally, runNumber, ranTo, runReply}
-use Rattle.board.specs.declared.pick.PickedRecord.{PickedRecord}
 use Rattle.board.specs.declared.run.RanTaken.{RanTaken}
 
 -- ---- steps taken
@@ -52,23 +48,6 @@ takenOf (r ∷ t) = r .taken ∷ takenOf t
 -- A caller whose table is shorter than 32 hands over no more records than it has, whatever else stands in the 32.
 abbrev pub handed : ℕ → State → State
 handed length s = record { table = take length (s .table); store = s .store }
-
--- ---- a pick
-
-abbrev pub refusedPick : ℕ → PickedRecord
-refusedPick k = record { number = k; after = blankRecord }
-
--- its number, and on 0 the record at its place after its step
-unfoldable pub pickChanges : Drive → ℕ → ℕ → State → PickedRecord
-unfolding pickNumber stepped
-pickChanges d n p s =
-    let k = pickNumber d n p s in
-    record { number = k; after = cond (eqb k 0) (stepped (getD (s .table) p noRecord)) blankRecord }
-
-unfoldable pub PickChanges : Drive → ℕ → ℕ → ℕ → State → PickedRecord → Store → Type 0
-unfolding pickChanges picked
-PickChanges d n p length s r u =
-    (r ≡ pickChanges d n p (handed length s)) × (u ≡ picked d n p (handed length s) .store)
 
 -- ---- a run
 

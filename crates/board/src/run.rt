@@ -1,9 +1,9 @@
 // The two runs: by a lent list of picks, and as written within a step budget. Numbers 1 and 9 are tested once, before anything moves
 // (Run 8). What a run changes is the steps taken, so beneath its two faces it hands back those and not the table.
 use crate::RECORDS;
-use crate::pick;
 use crate::step;
 use crate::table;
+use chain::sizes;
 use command::sound;
 use command::touch;
 use meaning::Drive;
@@ -11,10 +11,12 @@ use meaning::Ran;
 use meaning::Record;
 ghost use mathlib.Core.Path.{_≡_};
 ghost use Prim.Native.Nat.{_+_, _*_, _≤_, _<_, min};
+ghost use mathlib.Core.Bool.{_||_};
 ghost use lib.ListN.{length};
-ghost use mathlib.Core.List.{[]};
+ghost use lib.Dec.{ltb};
 ghost use Rattle.meaning.specs.Store.{lent};
-ghost use Rattle.meaning.specs.State.{stateOf};
+ghost use Rattle.meaning.specs.State.{stateOf, mostCommands};
+ghost use Rattle.meaning.specs.Sizes.{storeWrong};
 ghost use Rattle.meaning.specs.Run as run;
 ghost use Rattle.board.specs.Changes.{RunTakes, refusedRun};
 ghost use Rattle.board.specs.Opening.{seenWith, firstNumber};
@@ -32,33 +34,36 @@ pub struct Seen {
     pub spoiled: bool,
 }
 
-// One record more is seen; one that is not in use changes nothing.
-fn with_record(seen: Seen, memory: &[u8], d: Drive, r: Record, in_use: bool) -> Seen
+// One record more is seen: whether it is bad, and the steps that are left of it. One that is not in use changes nothing.
+fn with_record(seen: Seen, in_use: bool, bad: bool, left: u32) -> Seen
     requires { ⌜ seen .left ≤ 4_294_967_296 * 4_294_967_295 ⌝ }
-    ensures { λ s. ⌜ s ≡ seenWith d (lent (now (memory .entry)) []) in_use r seen ⌝ }
+    ensures { λ s. ⌜ s ≡ seenWith in_use bad left seen ⌝ }
     ensures within { λ s. ⌜ s .left ≤ seen .left + 4_294_967_295 ⌝ }
 {
     if !in_use {
         return seen;
     }
-    let left = seen.left + command::remaining(r) as u64;
-    if seen.spoiled {
-        return Seen {
-            left,
-            spoiled: true,
-        };
-    }
     Seen {
-        left,
-        spoiled: sound::bad_record(memory, d, r),
+        left: seen.left + left as u64,
+        spoiled: seen.spoiled | bad,
     }
+}
+
+// Number 1: memory or image of a wrong size, or a table of so many records that is too short.
+fn sizes_wrong(memory: &[u8], image: &[u8], d: Drive, length: usize) -> bool
+    ensures { λ b. ⌜ b ≡ (storeWrong d (lent (now (memory .entry)) (now (image .entry))) || ltb length mostCommands) ⌝ }
+{
+    if sizes::sizes_wrong(memory, image, d) {
+        return true;
+    }
+    length < RECORDS
 }
 
 // Numbers 1 and 9, which both runs test first.
 fn first_number(memory: &[u8], image: &[u8], d: Drive, length: usize, spoiled: bool) -> u8
     ensures { λ n. ⌜ n ≡ firstNumber d length spoiled (lent (now (memory .entry)) (now (image .entry))) ⌝ }
 {
-    if pick::sizes_wrong(memory, image, d, length) {
+    if sizes_wrong(memory, image, d, length) {
         return 1;
     }
     if spoiled {
@@ -68,7 +73,7 @@ fn first_number(memory: &[u8], image: &[u8], d: Drive, length: usize, spoiled: b
 }
 
 // A refusal: zero counts and "not finished".
-fn refused(number: u8) -> Ran
+pub fn refused(number: u8) -> Ran
     ensures { λ r. ⌜ r ≡ refusedRun number ⌝ }
 {
     Ran {
@@ -80,7 +85,7 @@ fn refused(number: u8) -> Ran
 }
 
 // How many records a number of commands can mean: a table holds 32 and no more.
-fn in_table(commands: usize) -> usize
+pub fn in_table(commands: usize) -> usize
     ensures { λ n. ⌜ n ≡ min commands 32 ⌝ }
 {
     if commands < RECORDS {
@@ -136,7 +141,8 @@ fn picks_alike(picks: &[u8], from: usize, left: u32) -> u32
 // read the table stand here, since a table that is passed on is copied. What two commands touch does not change with their steps, and a
 // command only ever comes nearer to its end: an earlier command that once did not block a place never blocks it again. So the search of
 // a pick goes on where the last one at its place stopped: `searched` holds how many earlier commands are known not to block it, and all
-// footprints are worked out before the first pick. Only where two of them meet are the ranges of both tested. Picks in a row at a place that may go take their steps at once.
+// footprints are worked out before the first pick. Only where two of them meet are the ranges of both tested. Picks in a row at a place
+// that may go take their steps at once.
 pub fn picks_taken<'a>(
     memory: &'a mut [u8],
     image: &'a mut [u8],
@@ -158,8 +164,10 @@ pub fn picks_taken<'a>(
     while k < RECORDS {
         let r = table[k];
         taken[k] = r.taken;
-        footprints[k] = touch::footprint_of(r);
-        seen = with_record(seen, memory, d, r, k < commands);
+        let j = sound::judge(memory.len() as u64, d, r);
+        let f = j.footprint;
+        footprints[k] = f;
+        seen = with_record(seen, k < commands, j.bad, command::remaining(r));
         k += 1;
     }
     let number = first_number(memory, image, d, length, seen.spoiled);
@@ -242,7 +250,8 @@ pub fn written_taken<'a>(
     while k < RECORDS {
         let r = table[k];
         taken[k] = r.taken;
-        seen = with_record(seen, memory, d, r, k < commands);
+        let bad = sound::bad_record(memory.len() as u64, d, table[k]);
+        seen = with_record(seen, k < commands, bad, command::remaining(r));
         k += 1;
     }
     let number = first_number(memory, image, d, length, seen.spoiled);

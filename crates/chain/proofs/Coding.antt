@@ -15,16 +15,18 @@ use Rattle.meaning.specs.declared.Drive.{Drive}
 use Rattle.meaning.specs.declared.Link.{Link}
 use Rattle.meaning.specs.Walk.{recordOf}
 use Rattle.meaning.specs.First.{Row, firstOf}
+use Rattle.meaning.specs.Fields.{sgm}
 use Rattle.meaning.specs.Sectors.{sectorBytes}
 use Rattle.meaning.specs.Ranges.{bytes}
-use Rattle.meaning.specs.Links.{linkBytes, mostLinks, linksAt, padded, rangeOf}
-use Rattle.meaning.specs.Code.{nop, read, commandIn, firstSector, gathers, linkCount, linksIn, listOutside, outside, commandRows, transferRows, dataRows, codeOf, earlyCode, linksRead}
+use Rattle.meaning.specs.Links.{linkBytes, mostLinks, linksAt, noLinks, padded, rangeOf}
+use Rattle.meaning.specs.Code.{copiedAt, nop, read, commandIn, firstSector, gathers, linkCount, linksIn, listOutside, outside, commandRows, transferRows, dataRows, codeOf, earlyCode, linksRead}
 use Rattle.meaning.proofs.Rows.{pass, stop, or-false}
-use Rattle.meaning.proofs.Tests.{or-no, some-map, sum-map}
+use Rattle.meaning.proofs.Tests.{and-no, or-no, some-map, sum-map}
 use Rattle.meaning.proofs.Means.{Means, holds, fails, means-lt}
 use Rattle.meaning.proofs.Numbers.{rows-off, off-last}
 use Rattle.meaning.proofs.Links.{few-links, some-links, length-links, links-kept}
 use Rattle.chain.specs.Coding.{toRead, plainCode, listCode, lateCode}
+use Rattle.chain.specs.Records.{recordAt, plainRecordAt}
 
 -- ---- rows
 
@@ -116,11 +118,11 @@ module _ (c : Copied) (n : ℕ) where
   listed-rows xs g o = rw (g, o, sum-map rangeOf (λ r. r .many) xs, some-map rangeOf (outside n) xs) refl
 
 -- how many elements are read, and the code then
-module _ (c : Copied) (early n : ℕ) (none : early ≡ 0) (ys : List Link) where
-  to-read-none : gathers c ≡ false → toRead c early n ≡ 0
-  unfolding toRead
-  to-read-none g = rw (none, g) refl
+to-read-none : (c : Copied) (early n : ℕ) → gathers c ≡ false → toRead c early n ≡ 0
+unfolding toRead
+to-read-none c early n g = rw (g, and-no (eqb early 0)) refl
 
+module _ (c : Copied) (early n : ℕ) (none : early ≡ 0) (ys : List Link) where
   to-read-outside : gathers c ≡ true → listOutside c n ≡ true → toRead c early n ≡ 0
   unfolding toRead
   to-read-outside g o = rw (none, g, o) refl
@@ -174,13 +176,13 @@ module _ (m : List ℕ) (c : Copied) (d : Drive) where
   unfolding plainCode
   of-nop z h =
       let q = nop-plain c d n (linksIn m c) z h in
-      late-plain c (earlyCode c d) n z list (k m c d) (to-read-none c (earlyCode c d) n z list (q .0)) ∙ stop _ _ _ h ∙ sym (q .1)
+      late-plain c (earlyCode c d) n z list (k m c d) (to-read-none c (earlyCode c d) n (q .0)) ∙ stop _ _ _ h ∙ sym (q .1)
 
   of-transfer : (g o : Bool) → earlyCode c d ≡ 0 → eqb (commandIn (c .byte0)) nop ≡ false → gathers c ≡ g → listOutside c n ≡ o → worked-out ≡ rule
   unfolding plainCode linksIn by-data
   of-transfer false o z h g e =
       let xs-none : linksIn m c ≡ [] = pass _ _ _ g in
-      late-plain c (earlyCode c d) n z list (k m c d) (to-read-none c (earlyCode c d) n z list g)
+      late-plain c (earlyCode c d) n z list (k m c d) (to-read-none c (earlyCode c d) n g)
       ∙ pass _ _ _ h
       ∙ ap (λ (b : Bool). cond (b || outside n (bytes (c .address) (sectorBytes * c .count))) 0x4B 0) g
       ∙ sym (data-decides c d n (linksIn m c) z h ∙ ap (λ (xs : List Link). firstOf (dataRows c n xs) 0) xs-none ∙ plain-rows c n g)
@@ -228,3 +230,28 @@ record-made m c a d early ranges sector code list is-early is-ranges is-list is-
     ∙ code-is m c d
     in
     λ j. record { iopb = a; address = c .address; sector = is-sector j; taken = 0; ranges = ranges-is j; count = c .count; byte0 = c .byte0; code = code-is-rule j; list = read j }
+
+-- ---- a record with no list
+
+pub plain-made : (m : List ℕ) (a : ℕ) (d : Drive) (c : Copied) (early sector code : ℕ) (list : List Link)
+    → c ≡ copiedAt m a
+    → early ≡ earlyCode c d
+    → list ≡ noLinks
+    → sector ≡ firstSector d c
+    → code ≡ lateCode c early (length m) [] 0
+    → record { iopb = a; address = c .address; sector = sector; taken = 0; ranges = 0; count = c .count; byte0 = c .byte0; code = code; list = list }
+    ≡ plainRecordAt m d a
+unfolding plainRecordAt
+plain-made m a d c early sector code list is-copied is-early is-list is-sector is-code =
+    let sector-is : sector ≡ firstSector d (copiedAt m a) = is-sector ∙ ap (firstSector d) is-copied in
+    let early-is : early ≡ earlyCode (copiedAt m a) d = is-early ∙ ap (λ (x : Copied). earlyCode x d) is-copied in
+    let code-is-late : code ≡ lateCode (copiedAt m a) (earlyCode (copiedAt m a) d) (length m) [] 0 = is-code ∙ ap₂ (λ (x : Copied) (e : ℕ). lateCode x e (length m) [] 0) is-copied early-is in
+    λ j. record { iopb = a; address = is-copied j .address; sector = sector-is j; taken = 0; ranges = 0; count = is-copied j .count; byte0 = is-copied j .byte0; code = code-is-late j; list = is-list j }
+
+-- where SGM is clear, that is the record
+pub plain-is : (m : List ℕ) (d : Drive) (a : ℕ) → eqb (sgm m a) 1 ≡ false → plainRecordAt m d a ≡ recordAt m d a
+unfolding plainRecordAt copiedAt linksAt
+plain-is m d a g =
+    let c = copiedAt m a in
+    record-made m c a d (earlyCode c d) 0 (firstSector d c) (lateCode c (earlyCode c d) (length m) [] 0) noLinks
+    refl (sym (to-read-none c (earlyCode c d) (length m) g)) refl refl refl

@@ -1,4 +1,6 @@
 pub mod Follow
+pub mod Found
+pub mod Over
 pub mod Past
 pub mod Alone
 pub mod Coding

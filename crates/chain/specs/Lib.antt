@@ -1,3 +1,4 @@
-pub mod Kept
 pub mod Past
 pub mod Coding
+pub mod Found
+pub mod Records

@@ -125,7 +125,7 @@ pub(crate) fn some_odd(list: [Link; 32], n: u32) -> bool
 }
 
 // Some of the first n ranges end past the end of memory.
-pub fn some_outside(list: [Link; 32], n: u32, memory: u64) -> bool
+pub(crate) fn some_outside(list: [Link; 32], n: u32, memory: u64) -> bool
     ensures { λ b. ⌜ b ≡ someOf (λ x. code.outside memory (rangeOf x)) (take n list) ⌝ }
 {
     let last = held(n);
@@ -140,7 +140,7 @@ pub fn some_outside(list: [Link; 32], n: u32, memory: u64) -> bool
 }
 
 // How many bytes the first n ranges have together.
-pub fn bytes_in(list: [Link; 32], n: u32) -> u32
+pub(crate) fn bytes_in(list: [Link; 32], n: u32) -> u32
     ensures { λ s. ⌜ s ≡ sumOf (λ x. x .length) (take n list) ⌝ }
 {
     let last = held(n);

@@ -1,4 +1,5 @@
-// The walk: from a first address along the chain, each IOPB copied into the table before anything moves.
+// The walk: from a first address along the chain, to know that it is accepted and where its IOPBs are; then each is copied into the table,
+// before anything moves.
 use crate::code;
 use crate::links;
 use crate::ranges;
@@ -10,16 +11,23 @@ use meaning::Walked;
 use meaning::WalkedTable;
 ghost use mathlib.Core.Path.{_≡_};
 ghost use mathlib.Core.List.{[]};
-ghost use Prim.Native.Nat.{_+_, max};
+ghost use Prim.Native.Nat.{_+_, _≤_, max};
 ghost use Rattle.meaning.specs.Each.{someOf};
 ghost use Rattle.meaning.specs.Fields.{iopbBytes};
-ghost use Rattle.meaning.specs.State.{stateOf};
+ghost use Rattle.meaning.specs.State.{mostCommands, stateOf};
 ghost use Rattle.meaning.specs.Walk.{Chain, recordOf, goesOn, shares, follow, WalkGives};
-ghost use Rattle.chain.specs.Kept.{kept};
+ghost use Rattle.chain.specs.Found.{foundOf, chainFor};
+ghost use Rattle.chain.specs.Records.{recordAt, plainRecordAt, filledAt};
 ghost use Rattle.chain.specs.Past.{AllEnd};
 
 // The most commands that a chain may have.
 pub const MOST_COMMANDS: usize = 32;
+
+// What the walk answers, and where the IOPBs of its commands are, before zeros.
+pub struct Found {
+    pub walked: Walked,
+    pub addresses: [u32; 32],
+}
 
 // A command's record, with no step taken yet. Its list is read only where no code is given before.
 fn record_of(memory: &[u8], c: Copied, at: u32, d: Drive) -> Record
@@ -91,62 +99,121 @@ fn furthest(past: u64, at: u32) -> u64
     ranges::later(past, at as u64 + iopb::IOPB_BYTES as u64)
 }
 
-// From the first IOPB on: each is tested, 5, 3, 4 in turn, and copied, until one ends the chain.
-fn follow_chain(memory: &[u8], d: Drive, start: u32, table: [Record; 32]) -> WalkedTable
-    ensures { λ r. ⌜ r ≡ kept (follow 32 (now (memory .entry)) d [] start) table ⌝ }
+// A refusal: its number, no commands and no addresses.
+fn nothing_found(number: u8) -> Found
+    ensures { λ f. ⌜ f ≡ foundOf (Chain.refused number) ⌝ }
 {
-    let mut filled = table;
+    let walked = Walked {
+        number,
+        commands: 0,
+    };
+    let addresses = [0u32; 32];
+    Found { walked, addresses }
+}
+
+// From the first IOPB on: each is tested, 5, 3, 4 in turn, and its address is noted, until one ends the chain. The drive has no say in it.
+fn follow_chain(memory: &[u8], start: u32) -> Found
+    ensures { λ f. ⌜ ((d : Drive) → f ≡ foundOf (follow 32 (now (memory .entry)) d [] start)) ⌝ }
+{
     let mut addresses = [0u32; 32];
     let mut n: usize = 0;
     let mut at = start;
     let mut past: u64 = 0;
     while n < MOST_COMMANDS {
         if !iopb::all_in(memory, at) {
-            return refused(3, table);
+            return nothing_found(3);
         }
         if meets_earlier(&addresses[..n], past, at) {
-            return refused(4, table);
+            return nothing_found(4);
         }
-        let c = code::copied(memory, at);
-        filled[n] = record_of(memory, c, at, d);
         addresses[n] = at;
         n += 1;
+        let c = code::copied(memory, at);
         if !goes_on(c) {
             let walked = Walked {
                 number: 0,
                 commands: n,
             };
-            return WalkedTable {
-                walked,
-                table: filled,
-            };
+            return Found { walked, addresses };
         }
         past = furthest(past, at);
         at = c.next;
     }
-    refused(5, table)
+    nothing_found(5)
 }
 
-// A refusal: its number, no commands, and the table as it was.
-fn refused(number: u8, table: [Record; 32]) -> WalkedTable
-    ensures { λ r. ⌜ r ≡ kept (Chain.refused number) table ⌝ }
+// What the walk answers with a table of so many records, and where the IOPBs of its commands are: 1, 2, then at each IOPB in turn 5, 3, 4.
+// No record is made yet, so that a caller can fill its table where it lies, and leaves it alone on a refusal.
+pub fn find(memory: &[u8], image: &[u8], d: Drive, start: u32, records: usize) -> Found
+    ensures { λ f. ⌜ f ≡ foundOf (chainFor d start records (now (memory .entry)) (now (image .entry))) ⌝ }
 {
-    let walked = Walked {
-        number,
-        commands: 0,
-    };
-    WalkedTable { walked, table }
+    if records < MOST_COMMANDS {
+        return nothing_found(1);
+    }
+    if sizes::sizes_wrong(memory, image, d) {
+        return nothing_found(1);
+    }
+    if start % 2 == 1 {
+        return nothing_found(2);
+    }
+    follow_chain(memory, start)
 }
 
-// The walk: 1, 2, then at each IOPB in turn 5, 3, 4; on 0 the table is filled, on a refusal nothing is changed.
+// The record of the IOPB at an address.
+pub fn record_at(memory: &[u8], d: Drive, at: u32) -> Record
+    ensures { λ r. ⌜ r ≡ recordAt (now (memory .entry)) d at ⌝ }
+{
+    record_of(memory, code::copied(memory, at), at, d)
+}
+
+// The same with no list, which is the record itself where SGM is clear: the compiler sees that the list is zeros, and lays them where the
+// record goes.
+pub fn plain_record_at(memory: &[u8], d: Drive, at: u32) -> Record
+    ensures { λ r. ⌜ r ≡ plainRecordAt (now (memory .entry)) d at ⌝ }
+{
+    let c = code::copied(memory, at);
+    let early = code::early_code(c, d);
+    let list = links::no_links();
+    Record {
+        iopb: at,
+        address: c.address,
+        sector: code::first_sector(c, d),
+        taken: 0,
+        ranges: 0,
+        count: c.count,
+        byte0: c.byte0,
+        code: code::code(c, early, memory.len() as u64, list, 0),
+        list,
+    }
+}
+
+// The records of the IOPBs at the first n of these addresses, over those of a table.
+fn filled(
+    memory: &[u8],
+    d: Drive,
+    addresses: [u32; 32],
+    n: usize,
+    table: [Record; 32],
+) -> [Record; 32]
+    requires { ⌜ n ≤ mostCommands ⌝ }
+    ensures { λ t. ⌜ t ≡ filledAt (now (memory .entry)) d n addresses table ⌝ }
+{
+    let mut t = table;
+    let mut k = 0;
+    while k < n {
+        t[k] = record_at(memory, d, addresses[k]);
+        k += 1;
+    }
+    t
+}
+
+// The walk: on 0 the table is filled, on a refusal nothing is changed.
 pub fn walk(memory: &[u8], image: &[u8], d: Drive, start: u32, table: [Record; 32]) -> WalkedTable
     ensures { λ r. ⌜ WalkGives d start (stateOf (now (memory .entry)) (now (image .entry)) table) (r .walked) (r .table) ⌝ }
 {
-    if sizes::sizes_wrong(memory, image, d) {
-        return refused(1, table);
-    }
-    if start % 2 == 1 {
-        return refused(2, table);
-    }
-    follow_chain(memory, d, start, table)
+    let f = find(memory, image, d, start, MOST_COMMANDS);
+    let walked = f.walked;
+    let addresses = f.addresses;
+    let table = filled(memory, d, addresses, walked.commands, table);
+    WalkedTable { walked, table }
 }

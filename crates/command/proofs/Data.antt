@@ -1,58 +1,78 @@
--- What number 9 asks of a transfer's data, by whether it has a list.
+-- What number 9 asks of a record: of its data the hull alone, and of memory its length alone.
 use mathlib.Core.Path.{_≡_, refl, sym, ap, ap₂, _∙_}
-use mathlib.Core.Logic.{_≢_}
-use Prim.Native.Nat.{ℕ, _+_, _*_, _≤_, _<_}
-use native.Mathlib.Nat.{add-zero}
+use Prim.Native.Nat.{ℕ, _+_, _*_, _<_, max}
+use native.Mathlib.Decide.{decLt}
+use native.Mathlib.Nat.{zero-add}
 use native.Mathlib.Omega.{arith}
-use mathlib.Core.Bool.{Bool, true, false, not, _&&_, _||_}
-use mathlib.Core.List.{List}
-use lib.Dec.{ltb, eqb}
-use borrow.Author.Tests.{lt-ltb, le-ltb, eq-eqb}
+use mathlib.Core.Bool.{Bool, true, false, not, _&&_, _||_, or-assoc}
+use mathlib.Core.List.{List, [], _∷_}
+use lib.Dec.{ltb, leb, eqb}
+use borrow.Author.Tests.{lt-ltb, le-ltb}
 use lib.ListN.{length}
 use Rattle.meaning.specs.declared.Drive.{Drive}
 use Rattle.meaning.specs.declared.Record.{Record}
 use Rattle.meaning.specs.Store.{Store, memory}
-use Rattle.meaning.specs.Each.{someOf, sumOf}
+use Rattle.meaning.specs.Sizes.{storeWrong}
+use Rattle.meaning.specs.Each.{someOf}
+use Rattle.meaning.specs.Fields.{iopbBytes}
 use Rattle.meaning.specs.Sectors.{sectorBytes, sectorCount}
 use Rattle.meaning.specs.Ranges.{Range}
-use Rattle.meaning.specs.Links.{mostLinks, rangeOf, bytesIn}
+use Rattle.meaning.specs.Links.{mostLinks, bytesIn}
 use Rattle.meaning.specs.Code.{outside}
-use Rattle.meaning.specs.Command.{writes, linksOf}
+use Rattle.meaning.specs.Command.{writes, transfers, stepsOf}
 use Rattle.meaning.specs.Touch.{dataBytes}
-use Rattle.meaning.specs.Pick.{badTransfer}
-use Rattle.meaning.proofs.Rows.{or-first, or-second}
-use Rattle.meaning.proofs.Tests.{or-no, some-map, sum-map}
-use Rattle.meaning.proofs.Pieces.{data-plain, data-listed}
-use Rattle.command.specs.Data.{badData}
+use Rattle.meaning.specs.Pick.{badTransfer, badRecord}
+use Rattle.meaning.proofs.Means.{Means, holds, fails, same-test, means-above, means-lt}
+use Rattle.meaning.proofs.Conditions.{right-store}
+use Rattle.meaning.proofs.Rows.{or-first, or-second, stop}
+use Rattle.meaning.proofs.Tests.{or-no}
+use Rattle.command.specs.declared.touch.Hull.{Hull}
+use Rattle.command.specs.Footprints.{far, nearer, hullWith, hullFrom, hullOf, dataHull}
+use Rattle.command.specs.Data.{badData, badMove, badIn}
 
-module _ (m : ℕ) (r : Record) where
-  -- by its ranges alone
-  abbrev by-ranges : List Range → Bool
-  by-ranges rs = someOf (outside m) rs || not (eqb (bytesIn rs) (sectorBytes * r .count))
+-- ---- the hull of some ranges tells whether one of them lies outside memory, and how many bytes they have
 
-  pub bad-plain : r .ranges ≡ 0 → ltb m (r .address + sectorBytes * r .count) ≡ badData m r
-  unfolding badData
-  bad-plain e =
-      let whole : eqb (sectorBytes * r .count + 0) (sectorBytes * r .count) ≡ true = eq-eqb _ _ (add-zero (sectorBytes * r .count)) in
-      let past = ltb m (r .address + sectorBytes * r .count) in
-      sym (or-second _ _ (le-ltb mostLinks (r .ranges) (omega arith))
-      ∙ ap by-ranges (data-plain r e)
-      ∙ ap₂ (λ (a b : Bool). a || b) (or-no past) (ap not whole)
-      ∙ or-no past)
+past-either : (n a b : ℕ) → ltb n (max a b) ≡ (ltb n a || ltb n b)
+past-either n a b =
+    elim (decLt n a) [
+      | yes h ↦ lt-ltb n (max a b) (omega arith) ∙ sym (or-first _ _ (lt-ltb n a h))
+      | no h ↦
+          elim (decLt n b) [
+            | yes g ↦ lt-ltb n (max a b) (omega arith) ∙ sym (or-second _ _ (le-ltb n a (omega arith)) ∙ lt-ltb n b g)
+            | no g ↦ le-ltb n (max a b) (omega arith) ∙ sym (or-second _ _ (le-ltb n a (omega arith)) ∙ le-ltb n b (omega arith))
+          ]
+    ]
 
-  pub bad-many : mostLinks < r .ranges → true ≡ badData m r
-  unfolding badData
-  bad-many h = sym (or-first _ _ (lt-ltb mostLinks (r .ranges) h))
+-- begun no further than `far`, a range ends past n as before, since n is less than that
+nearer-end : (n : ℕ) (x : Range) → n < far → ltb n (nearer (x .from) + x .many) ≡ outside n x
+nearer-end n x h = same-test (means-lt n (nearer (x .from) + x .many)) (as-far (means-lt n (x .from + x .many)))
+  where
+    as-far : {b : Bool} → Means (n < x .from + x .many) b → Means (n < nearer (x .from) + x .many) b
+    as-far (holds g) = holds (omega arith)
+    as-far (fails g) = fails (λ e. g (omega arith))
 
-  pub bad-listed : r .ranges ≢ 0 → r .ranges ≤ mostLinks
-      → badData m r ≡ (someOf (λ x. outside m (rangeOf x)) (linksOf r) || not (eqb (sumOf (λ x. x .length) (linksOf r)) (sectorBytes * r .count)))
-  unfolding badData
-  bad-listed n few =
-      or-second _ _ (le-ltb mostLinks (r .ranges) few)
-      ∙ ap by-ranges (data-listed r n)
-      ∙ ap₂ (λ (a : Bool) (k : ℕ). a || not (eqb k (sectorBytes * r .count))) (some-map rangeOf (outside m) (linksOf r)) (sum-map rangeOf (λ x. x .many) (linksOf r))
+outside-from : (n : ℕ) → n < far → (h : Hull) (xs : List Range) → ltb n (hullFrom h xs .high) ≡ (ltb n (h .high) || someOf (outside n) xs)
+outside-from n f h [] = sym (or-no (ltb n (h .high)))
+outside-from n f h (x ∷ xs) =
+    outside-from n f (hullWith h x) xs
+    ∙ ap (λ (b : Bool). b || someOf (outside n) xs) (past-either n (h .high) (nearer (x .from) + x .many) ∙ ap (λ (b : Bool). ltb n (h .high) || b) (nearer-end n x f))
+    ∙ or-assoc (ltb n (h .high)) (outside n x) (someOf (outside n) xs)
 
--- the parts of a bad transfer, with those of its data together
+bytes-from : (h : Hull) (xs : List Range) → hullFrom h xs .bytes ≡ h .bytes + bytesIn xs
+bytes-from h [] = omega arith
+bytes-from h (x ∷ xs) = omega (arith, bytes-from (hullWith h x) xs)
+
+by-hull : (n : ℕ) → n < far → (r : Record) → transfers r ≡ true
+    → badData n r ≡ (ltb mostLinks (r .ranges) || (someOf (outside n) (dataBytes r) || not (eqb (bytesIn (dataBytes r)) (sectorBytes * r .count))))
+unfolding badData
+by-hull n f r moves =
+    let moved : dataHull r ≡ hullOf (dataBytes r) = ap hullOf (stop (transfers r) (dataBytes r) [] moves) in
+    let high = ap (λ (h : Hull). ltb n (h .high)) moved ∙ outside-from n f (hullOf []) (dataBytes r) ∙ or-second _ _ (le-ltb n 0 (omega arith)) in
+    let bytes = ap (λ (h : Hull). h .bytes) moved ∙ bytes-from (hullOf []) (dataBytes r) ∙ zero-add (bytesIn (dataBytes r)) in
+    ap₂ (λ (a : Bool) (k : ℕ). ltb mostLinks (r .ranges) || (a || not (eqb k (sectorBytes * r .count)))) high bytes
+
+-- ---- the rules' number 9 is what the code tests
+
 regroup : (a b c d e f : Bool) → (((((a || b) || c) || d) || e) || f) ≡ (a || ((b || (c || d)) || (e || f)))
 regroup true b c d e f = refl
 regroup false true c d e f = refl
@@ -60,9 +80,30 @@ regroup false false true d e f = refl
 regroup false false false true e f = refl
 regroup false false false false e f = refl
 
-pub by-parts : (d : Drive) (s : Store) (r : Record)
-    → badTransfer d s r ≡ (eqb (r .count) 0 || (badData (length (s memory)) r || (ltb (sectorCount d) (r .sector + r .count) || writes r && d .protected)))
-unfolding badTransfer badData
-by-parts d s r =
-    regroup (eqb (r .count) 0) (ltb mostLinks (r .ranges)) (someOf (outside (length (s memory))) (dataBytes r)) (not (eqb (bytesIn (dataBytes r)) (sectorBytes * r .count)))
-    (ltb (sectorCount d) (r .sector + r .count)) (writes r && d .protected)
+not-leb : (a n : ℕ) → not (leb a n) ≡ ltb n a
+not-leb a n = same-test (means-above a n) (means-lt n a)
+
+module _ (d : Drive) (s : Store) (right : storeWrong d s ≡ false) (r : Record) where
+  abbrev n : ℕ
+  n = length (s memory)
+
+  small : n < far
+  small = omega (arith, right-store d s right .memory-fits)
+
+  by-parts : transfers r ≡ true → badTransfer d s r ≡ badMove n d r
+  unfolding badTransfer badMove
+  by-parts moves =
+      regroup (eqb (r .count) 0) (ltb mostLinks (r .ranges)) (someOf (outside n) (dataBytes r)) (not (eqb (bytesIn (dataBytes r)) (sectorBytes * r .count)))
+      (ltb (sectorCount d) (r .sector + r .count)) (writes r && d .protected)
+      ∙ ap (λ (b : Bool). eqb (r .count) 0 || (b || (ltb (sectorCount d) (r .sector + r .count) || writes r && d .protected))) (sym (by-hull n small r moves))
+
+  -- what is asked of a transfer is not asked of any other command
+  if-moves : (b : Bool) → transfers r ≡ b → (b && badTransfer d s r) ≡ (b && badMove n d r)
+  if-moves true e = by-parts e
+  if-moves false e = refl
+
+  pub bad-in : badRecord d s r ≡ badIn n d r
+  unfolding badRecord badIn
+  bad-in =
+      ap₂ (λ (a b : Bool). (a || ltb (stepsOf r) (r .taken)) || b) (not-leb (r .iopb + iopbBytes) n) (if-moves (transfers r) refl)
+      ∙ or-assoc (ltb n (r .iopb + iopbBytes)) (ltb (stepsOf r) (r .taken)) (transfers r && badMove n d r)

@@ -1,6 +1,6 @@
 -- The rules' conflict is what the code tests: five pairs of ranges, or of lists of them, each where one of the two commands writes there.
 -- What a command touches depends on its kind, and a range of memory meets no sectors; that the two tests agree is then seen by trying all
--- values. And commands whose footprints do not meet have none of these pairs in common, since each range lies within its hull.
+-- values. And commands whose footprints do not meet have none of these pairs in common, since each range, begun no further than `far`, lies within its hull.
 use mathlib.Core.Path.{_≡_, refl, sym, ap, ap₂, _∙_}
 use Prim.Native.Nat.{ℕ, _+_, _≤_, max, min}
 use native.Mathlib.Nat.{max-comm, min-comm, le-refl, le-max-right, min-le-right}
@@ -23,7 +23,7 @@ use Rattle.meaning.proofs.Conditions.{means-reads, means-writes, not-both}
 use Rattle.meaning.proofs.Ranges.{meet-swap}
 use Rattle.meaning.proofs.Pieces.{OfMemory, data-memory}
 use Rattle.command.specs.declared.touch.Hull.{Hull}
-use Rattle.command.specs.Footprints.{hullWith, hullFrom, hullOf, movedData, footprintOf, hullsMeet, statusMeets, dataMeets, sectorsMeet, footprintsMeet, dataConflicts, sectorsConflict}
+use Rattle.command.specs.Footprints.{nearer, hullWith, hullFrom, hullOf, movedData, footprintOf, hullsMeet, statusMeets, dataMeets, sectorsMeet, footprintsMeet, dataConflicts, sectorsConflict}
 
 -- ---- ranges against what a command touches
 
@@ -239,7 +239,7 @@ conflict-is r s =
 
 -- a range within a hull
 abbrev Under : Hull → Range → Type 0
-Under h x = (h .low ≤ x .from) × (x .from + x .many ≤ h .high)
+Under h x = (h .low ≤ nearer (x .from)) × (nearer (x .from) + x .many ≤ h .high)
 
 -- a hull only widens
 wider-low : (h : Hull) (xs : List Range) → hullFrom h xs .low ≤ h .low
@@ -255,24 +255,24 @@ all-under h [] = tt
 all-under h (x ∷ xs) = ((omega (arith, wider-low (hullWith h x) xs), omega (arith, wider-high (hullWith h x) xs)), all-under (hullWith h x) xs)
 
 -- what is apart from a hull is apart from each range within it
-apart-from : (a b : ℕ) (h : Hull) (n : ℕ) (x : Range) → b ≡ a + n → ltb (max a (h .low)) (min b (h .high)) ≡ false → Under h x → crosses a n (x .from) (x .many) ≡ false
+apart-from : (a n : ℕ) (h : Hull) (x : Range) → ltb (max (nearer a) (h .low)) (min (nearer a + n) (h .high)) ≡ false → Under h x → crosses a n (x .from) (x .many) ≡ false
 unfolding crosses
-apart-from a b h n x e f u = le-ltb (max a (x .from)) (min (a + n) (x .from + x .many)) (omega (arith, ltb-false (max a (h .low)) (min b (h .high)) f, u .0, u .1))
+apart-from a n h x f u = le-ltb (max a (x .from)) (min (a + n) (x .from + x .many)) (omega (arith, ltb-false (max (nearer a) (h .low)) (min (nearer a + n) (h .high)) f, u .0, u .1))
 
-apart-some : (a n : ℕ) (xs : List Range) → ltb (max a (hullOf xs .low)) (min (a + n) (hullOf xs .high)) ≡ false → All OfMemory xs → someOf (overlap (bytes a n)) xs ≡ false
+apart-some : (a n : ℕ) (xs : List Range) → ltb (max (nearer a) (hullOf xs .low)) (min (nearer a + n) (hullOf xs .high)) ≡ false → All OfMemory xs → someOf (overlap (bytes a n)) xs ≡ false
 apart-some a n xs e m =
     some-no (λ x. OfMemory x × Under (hullOf xs) x) (overlap (bytes a n))
-    (λ x h. ap (overlap (bytes a n)) (h .0) ∙ apart-from a (a + n) (hullOf xs) n x refl e (h .1)) xs (all-both OfMemory (Under (hullOf xs)) xs m (all-under _ xs))
+    (λ x h. ap (overlap (bytes a n)) (h .0) ∙ apart-from a n (hullOf xs) x e (h .1)) xs (all-both OfMemory (Under (hullOf xs)) xs m (all-under _ xs))
 
 -- two hulls apart: no range of the one crosses one of the other
 apart-both : (xs ys : List Range) → hullsMeet (hullOf xs) (hullOf ys) ≡ false → All OfMemory xs → All OfMemory ys → meet xs ys ≡ false
 apart-both xs ys e mx my =
     some-no (λ x. OfMemory x × Under (hullOf xs) x) (λ x. someOf (overlap x) ys)
-    (λ x h. ap (λ (z : Range). someOf (overlap z) ys) (h .0) ∙ apart-some (x .from) (x .many) ys (nearer x (h .1)) my) xs (all-both OfMemory (Under (hullOf xs)) xs mx (all-under _ xs))
+    (λ x h. ap (λ (z : Range). someOf (overlap z) ys) (h .0) ∙ apart-some (x .from) (x .many) ys (inside x (h .1)) my) xs (all-both OfMemory (Under (hullOf xs)) xs mx (all-under _ xs))
   where
-    nearer : (x : Range) → Under (hullOf xs) x → ltb (max (x .from) (hullOf ys .low)) (min (x .from + x .many) (hullOf ys .high)) ≡ false
-    nearer x u =
-        le-ltb (max (x .from) (hullOf ys .low)) (min (x .from + x .many) (hullOf ys .high))
+    inside : (x : Range) → Under (hullOf xs) x → ltb (max (nearer (x .from)) (hullOf ys .low)) (min (nearer (x .from) + x .many) (hullOf ys .high)) ≡ false
+    inside x u =
+        le-ltb (max (nearer (x .from)) (hullOf ys .low)) (min (nearer (x .from) + x .many) (hullOf ys .high))
         (omega (arith, ltb-false (max (hullOf xs .low) (hullOf ys .low)) (min (hullOf xs .high) (hullOf ys .high)) e, u .0, u .1))
 
 moved-memory : (r : Record) → All OfMemory (movedData r)

@@ -1,15 +1,27 @@
--- What number 9 asks of a transfer's data, as the code tests it. proofs/Data proves that this is what the rules ask. n is the length of
--- memory.
-use Prim.Native.Nat.{ℕ, _*_}
-use mathlib.Core.Bool.{Bool, not, _||_}
+-- What number 9 asks of a record, as the code tests it: of its data the hull alone, and of memory how many bytes it has, n. proofs/Data
+-- proves that this is what the rules ask, where sizes are right; where they are not, number 1 comes first.
+use Prim.Native.Nat.{ℕ, _+_, _*_}
+use mathlib.Core.Bool.{Bool, not, _&&_, _||_}
 use lib.Dec.{ltb, eqb}
+use Rattle.meaning.specs.declared.Drive.{Drive}
 use Rattle.meaning.specs.declared.Record.{Record}
-use Rattle.meaning.specs.Each.{someOf}
-use Rattle.meaning.specs.Sectors.{sectorBytes}
-use Rattle.meaning.specs.Links.{mostLinks, bytesIn}
-use Rattle.meaning.specs.Code.{outside}
-use Rattle.meaning.specs.Touch.{dataBytes}
+use Rattle.meaning.specs.Fields.{iopbBytes}
+use Rattle.meaning.specs.Sectors.{sectorBytes, sectorCount}
+use Rattle.meaning.specs.Links.{mostLinks}
+use Rattle.meaning.specs.Command.{writes, transfers, stepsOf}
+use Rattle.command.specs.Footprints.{dataHull}
 
 unfoldable pub badData : ℕ → Record → Bool
 badData n r =
-    ltb mostLinks (r .ranges) || (someOf (outside n) (dataBytes r) || not (eqb (bytesIn (dataBytes r)) (sectorBytes * r .count)))
+    ltb mostLinks (r .ranges) || (ltb n (dataHull r .high) || not (eqb (dataHull r .bytes) (sectorBytes * r .count)))
+
+-- of a transfer
+unfoldable pub badMove : ℕ → Drive → Record → Bool
+unfolding badData
+badMove n d r =
+    eqb (r .count) 0 || (badData n r || (ltb (sectorCount d) (r .sector + r .count) || writes r && d .protected))
+
+-- of any record
+unfoldable pub badIn : ℕ → Drive → Record → Bool
+unfolding badMove stepsOf
+badIn n d r = ltb n (r .iopb + iopbBytes) || (ltb (stepsOf r) (r .taken) || transfers r && badMove n d r)

@@ -13,13 +13,29 @@ use Rattle.command.specs.declared.touch.Footprint.{Footprint}
 
 -- ---- hulls
 
--- the hull of nothing begins past all addresses
+-- Host memory ends long before `far`. What begins past it is taken to begin there, so that every end fits into 32 bits: ranges that meet
+-- still meet then, and what is outside memory still is.
+abbrev pub far : ℕ
+far = 2_147_483_648
+
+abbrev pub nearer : ℕ → ℕ
+nearer a = min a far
+
+-- the hull of nothing begins past all ranges
 abbrev pub noHull : Hull
-noHull = record { low = 4_294_967_296; high = 0 }
+noHull = record { low = far; high = 0; bytes = 0 }
 
 -- a hull with one range more within it
 abbrev pub hullWith : Hull → Range → Hull
-hullWith h x = record { low = min (h .low) (x .from); high = max (h .high) (x .from + x .many) }
+hullWith h x = record { low = min (h .low) (nearer (x .from)); high = max (h .high) (nearer (x .from) + x .many); bytes = h .bytes + x .many }
+
+-- how many bytes a hull may have before a range is added, as many as 32 ranges have at the most; and how many that range may have, as many
+-- as the most sectors of a command
+abbrev pub mostBytes : ℕ
+mostBytes = 2_097_120
+
+abbrev pub mostAdded : ℕ
+mostAdded = 33_553_920
 
 -- with some ranges more
 abbrev pub hullFrom : Hull → List Range → Hull
@@ -45,7 +61,7 @@ dataHull r = hullOf (movedData r)
 abbrev pub noFootprint : Footprint
 noFootprint =
     record {
-      hull = record { low = 0; high = 0 };
+      hull = record { low = 0; high = 0; bytes = 0 };
       status = 0;
       sector = 0;
       sectors = 0;
@@ -74,7 +90,7 @@ hullsMeet g h = ltb (max (g .low) (h .low)) (min (g .high) (h .high))
 
 -- the status bytes of the one and the data of the other
 abbrev pub statusMeets : Footprint → Footprint → Bool
-statusMeets f g = ltb (max (f .status) (g .hull .low)) (min (f .status + 4) (g .hull .high))
+statusMeets f g = ltb (max (nearer (f .status)) (g .hull .low)) (min (nearer (f .status) + 4) (g .hull .high))
 
 -- data in common, where one of the two reads; sectors in common, where one of them writes
 abbrev pub dataMeets : Footprint → Footprint → Bool

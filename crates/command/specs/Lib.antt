@@ -1,4 +1,5 @@
--- What the functions of this crate say in their contracts beside the rules: what number 9 asks of data, and what a command touches, as
--- hulls.
-pub mod Data
+-- What the functions of this crate say in their contracts beside the rules: what a command touches, as hulls, what number 9 asks, and what
+-- is seen of a record.
 pub mod Footprints
+pub mod Data
+pub mod Look

@@ -1,43 +1,42 @@
-// Whether a record may stand in a table in use: number 9 is given for one that may not (Spoiled 2 to 7, 9 and 10).
+// Whether a record may stand in a table in use: number 9 is given for one that may not (Spoiled 2 to 7, 9 and 10). What is asked of a
+// command's data is told by its hull, so that a list is gone through once. `memory` is how many bytes memory has.
+use crate::touch;
+use crate::touch::Footprint;
+use crate::touch::Hull;
 use chain::links;
 use meaning::Drive;
 use meaning::Record;
 ghost use mathlib.Core.Path.{_≡_};
 ghost use mathlib.Core.Bool.{true};
-ghost use mathlib.Core.List.{[]};
-ghost use Rattle.meaning.specs.Store.{lent};
 ghost use Rattle.meaning.specs.Command.{transfers};
-ghost use Rattle.meaning.specs.Pick as pick;
-ghost use Rattle.command.specs.Data.{badData};
+ghost use Rattle.command.specs.Data.{badData, badMove, badIn};
+ghost use Rattle.command.specs.Footprints.{dataHull};
+ghost use Rattle.command.specs.Look.{mayBlock, judgedAs, lookedAs};
 
 // Data outside memory, or ranges that do not add up to the sectors, or are more than a record can hold (Spoiled 5, 9 and 10).
-fn bad_data(r: Record, memory: u64) -> bool
+fn bad_data(memory: u64, r: Record, h: Hull) -> bool
+    requires { ⌜ h ≡ dataHull r ⌝ }
     ensures { λ b. ⌜ b ≡ badData memory r ⌝ }
 {
-    let bytes = drive::SECTOR_BYTES as u32 * r.count as u32;
-    if r.ranges == 0 {
-        return memory < r.address as u64 + bytes as u64;
-    }
     if links::MOST_LINKS < r.ranges {
         return true;
     }
-    let list = r.list;
-    if links::some_outside(list, r.ranges, memory) {
+    if memory < h.high as u64 {
         return true;
     }
-    links::bytes_in(list, r.ranges) != bytes
+    h.bytes != drive::SECTOR_BYTES as u32 * r.count as u32
 }
 
 // A transfer with count zero, with bad data, with sectors outside the drive, or writing to a protected drive (Spoiled 4 to 7, 9 and 10). Its
 // code is 00, so that its command alone tells whether it writes.
-fn bad_transfer(memory: &[u8], d: Drive, r: Record) -> bool
-    requires { ⌜ transfers r ≡ true ⌝ }
-    ensures { λ b. ⌜ b ≡ pick.badTransfer d (lent (now (memory .entry)) []) r ⌝ }
+fn bad_transfer(memory: u64, d: Drive, r: Record, h: Hull) -> bool
+    requires { ⌜ (transfers r ≡ true) × (h ≡ dataHull r) ⌝ }
+    ensures { λ b. ⌜ b ≡ badMove memory d r ⌝ }
 {
     if r.count == 0 {
         return true;
     }
-    if bad_data(r, memory.len() as u64) {
+    if bad_data(memory, r, h) {
         return true;
     }
     if drive::past_end(drive::sectors(d), r.sector, r.count) {
@@ -49,18 +48,74 @@ fn bad_transfer(memory: &[u8], d: Drive, r: Record) -> bool
     false
 }
 
-// A record that no table in use may hold. Its kind is asked once, before its steps.
-pub fn bad_record(memory: &[u8], d: Drive, r: Record) -> bool
-    ensures { λ b. ⌜ b ≡ pick.badRecord d (lent (now (memory .entry)) []) r ⌝ }
+// A record that no table in use may hold, by the hull of its data. Its kind is asked once, before its steps.
+fn bad_by(memory: u64, d: Drive, r: Record, h: Hull) -> bool
+    requires { ⌜ h ≡ dataHull r ⌝ }
+    ensures { λ b. ⌜ b ≡ badIn memory d r ⌝ }
 {
-    if !iopb::all_in(memory, r.iopb) {
+    if memory < r.iopb as u64 + iopb::IOPB_BYTES as u64 {
         return true;
     }
     if crate::transfers(r) {
         if (r.count as u32) < r.taken {
             return true;
         }
-        return bad_transfer(memory, d, r);
+        return bad_transfer(memory, d, r, h);
     }
     1 < r.taken
+}
+
+// A record that no table in use may hold.
+pub fn bad_record(memory: u64, d: Drive, r: Record) -> bool
+    ensures { λ b. ⌜ b ≡ badIn memory d r ⌝ }
+{
+    bad_by(memory, d, r, touch::data_hull(r))
+}
+
+// What is said of a record before any step: its footprint, and whether it is bad.
+pub struct Judged {
+    pub footprint: Footprint,
+    pub bad: bool,
+}
+
+// A record's footprint, and whether the record is bad, from one way through its list.
+pub fn judge(memory: u64, d: Drive, r: Record) -> Judged
+    ensures { λ j. ⌜ j ≡ judgedAs memory d r ⌝ }
+{
+    let h = touch::data_hull(r);
+    Judged {
+        footprint: touch::footprint_with(r, h),
+        bad: bad_by(memory, d, r, h),
+    }
+}
+
+// Whether a command may block one whose footprint is `wanted`: it is earlier, it is unfinished, and their footprints meet.
+fn may_block(r: Record, h: Hull, wanted: Footprint, earlier: bool) -> bool
+    requires { ⌜ h ≡ dataHull r ⌝ }
+    ensures { λ b. ⌜ b ≡ mayBlock r wanted earlier ⌝ }
+{
+    if !earlier {
+        return false;
+    }
+    if crate::finished(r) {
+        return false;
+    }
+    touch::footprints_meet(touch::footprint_with(r, h), wanted)
+}
+
+// What a pick sees of a record: whether it is bad, and whether it may block the picked command.
+pub struct Looked {
+    pub bad: bool,
+    pub near: bool,
+}
+
+// A record, as a pick sees it that wants to go to a command with the footprint `wanted`.
+pub fn look(memory: u64, d: Drive, r: Record, wanted: Footprint, earlier: bool) -> Looked
+    ensures { λ l. ⌜ l ≡ lookedAs memory d r wanted earlier ⌝ }
+{
+    let h = touch::data_hull(r);
+    Looked {
+        bad: bad_by(memory, d, r, h),
+        near: may_block(r, h, wanted, earlier),
+    }
 }

@@ -6,7 +6,7 @@ use chain::ranges;
 use meaning::Link;
 use meaning::Record;
 ghost use mathlib.Core.Path.{_≡_};
-ghost use Prim.Native.Nat.{_*_};
+ghost use Prim.Native.Nat.{_+_, _*_, _≤_, max, min};
 ghost use mathlib.Core.List.{[], map};
 ghost use lib.ListN.{take};
 ghost use Rattle.meaning.specs.Each.{someOf};
@@ -14,15 +14,21 @@ ghost use Rattle.meaning.specs.Sectors.{sectorBytes};
 ghost use Rattle.meaning.specs.Ranges.{bytes, overlap, meet};
 ghost use Rattle.meaning.specs.Links.{rangeOf};
 ghost use Rattle.meaning.specs.Touch as touch;
-ghost use Rattle.command.specs.Footprints.{hullWith, hullOf, movedBy, movedData, dataHull, noFootprint, footprintOf, hullsMeet, statusMeets, dataMeets, sectorsMeet, footprintsMeet, dataConflicts, sectorsConflict};
+ghost use Rattle.command.specs.Footprints.{nearer, mostBytes, mostAdded, hullWith, hullOf, movedBy, movedData, dataHull, noFootprint, footprintOf, hullsMeet, statusMeets, dataMeets, sectorsMeet, footprintsMeet, dataConflicts, sectorsConflict};
 
 // A close writes the first four bytes of its IOPB (Step 5).
 const STATUS_BYTES: u32 = 4;
 
+// What begins past this is taken to begin here, which is far outside memory, so that every end of a range fits into 32 bits: of such
+// numbers the compiler looks at several at a time.
+const FAR: u32 = 2_147_483_648;
+
 // From the first byte of some ranges to the first one past all of them.
 pub struct Hull {
-    pub low: u64,
-    pub high: u64,
+    pub low: u32,
+    pub high: u32,
+    // how many bytes the ranges have together
+    pub bytes: u32,
 }
 
 // What a command touches from its first step to its close, and how many steps it has.
@@ -40,13 +46,35 @@ pub struct Footprint {
     pub writes: bool,
 }
 
-// The hull of nothing: it begins past all addresses.
+// The smaller of two numbers.
+fn smaller(a: u32, b: u32) -> u32
+    ensures { λ n. ⌜ n ≡ min a b ⌝ }
+{
+    if a < b { a } else { b }
+}
+
+// The larger of two numbers.
+fn larger(a: u32, b: u32) -> u32
+    ensures { λ n. ⌜ n ≡ max a b ⌝ }
+{
+    if a < b { b } else { a }
+}
+
+// Where a range begins that begins at a, as a hull counts it.
+fn begins(a: u32) -> u32
+    ensures { λ n. ⌜ n ≡ nearer a ⌝ }
+{
+    smaller(a, FAR)
+}
+
+// The hull of nothing: it begins past all ranges.
 fn no_hull() -> Hull
     ensures { λ h. ⌜ h ≡ hullOf [] ⌝ }
 {
     Hull {
-        low: 4_294_967_296,
+        low: FAR,
         high: 0,
+        bytes: 0,
     }
 }
 
@@ -55,7 +83,11 @@ pub fn no_footprint() -> Footprint
     ensures { λ f. ⌜ f ≡ noFootprint ⌝ }
 {
     Footprint {
-        hull: Hull { low: 0, high: 0 },
+        hull: Hull {
+            low: 0,
+            high: 0,
+            bytes: 0,
+        },
         status: 0,
         sector: 0,
         sectors: 0,
@@ -67,17 +99,22 @@ pub fn no_footprint() -> Footprint
 
 // A hull with n bytes from a on within it too.
 fn hull_with(h: Hull, a: u32, n: u32) -> Hull
+    requires { ⌜ (h .bytes ≤ mostBytes) × (n ≤ mostAdded) ⌝ }
     ensures { λ g. ⌜ g ≡ hullWith h (bytes a n) ⌝ }
 {
+    let from = begins(a);
     Hull {
-        low: ranges::earlier(h.low, a as u64),
-        high: ranges::later(h.high, a as u64 + n as u64),
+        low: smaller(h.low, from),
+        high: larger(h.high, from + n),
+        bytes: h.bytes + n,
     }
 }
 
 // A hull with the range of an element within it too.
 fn hull_with_link(h: Hull, x: Link) -> Hull
+    requires { ⌜ h .bytes ≤ mostBytes ⌝ }
     ensures { λ g. ⌜ g ≡ hullWith h (rangeOf x) ⌝ }
+    ensures within { λ g. ⌜ g .bytes ≤ h .bytes + 65_535 ⌝ }
 {
     hull_with(h, x.address, x.length as u32)
 }
@@ -104,7 +141,7 @@ fn plain_bytes(r: Record) -> u32
 }
 
 // The hull of a command's data; of nothing where it moves none.
-fn data_hull(r: Record) -> Hull
+pub(crate) fn data_hull(r: Record) -> Hull
     ensures { λ h. ⌜ h ≡ dataHull r ⌝ }
 {
     if !crate::transfers(r) {
@@ -128,12 +165,13 @@ fn moved(r: Record) -> u32
     }
 }
 
-// The footprint of a command.
-pub fn footprint_of(r: Record) -> Footprint
+// The footprint of a command, by the hull of its data.
+pub(crate) fn footprint_with(r: Record, hull: Hull) -> Footprint
+    requires { ⌜ hull ≡ dataHull r ⌝ }
     ensures { λ f. ⌜ f ≡ footprintOf r ⌝ }
 {
     Footprint {
-        hull: data_hull(r),
+        hull,
         status: r.iopb,
         sector: r.sector,
         sectors: moved(r),
@@ -143,23 +181,26 @@ pub fn footprint_of(r: Record) -> Footprint
     }
 }
 
+// The footprint of a command.
+pub fn footprint_of(r: Record) -> Footprint
+    ensures { λ f. ⌜ f ≡ footprintOf r ⌝ }
+{
+    footprint_with(r, data_hull(r))
+}
+
 // The hulls have a byte in common.
 fn hulls_meet(f: Hull, g: Hull) -> bool
     ensures { λ b. ⌜ b ≡ hullsMeet f g ⌝ }
 {
-    ranges::common(f.low, f.high, g.low, g.high)
+    larger(f.low, g.low) < smaller(f.high, g.high)
 }
 
 // The status bytes of the one have a byte in common with the hull of the other.
 fn status_meets(f: Footprint, g: Footprint) -> bool
     ensures { λ b. ⌜ b ≡ statusMeets f g ⌝ }
 {
-    ranges::common(
-        f.status as u64,
-        f.status as u64 + STATUS_BYTES as u64,
-        g.hull.low,
-        g.hull.high,
-    )
+    let from = begins(f.status);
+    larger(from, g.hull.low) < smaller(from + STATUS_BYTES, g.hull.high)
 }
 
 // The sectors of both have one in common, and one of them writes it.
@@ -310,14 +351,4 @@ pub fn ranges_conflict(r: Record, s: Record) -> bool
         return true;
     }
     sectors_conflict(r, s)
-}
-
-// Two commands conflict: one of them writes a byte or sector that the other reads or writes (Touch 4). Their footprints are tested first.
-pub fn conflict(r: Record, s: Record) -> bool
-    ensures { λ b. ⌜ b ≡ touch.conflict r s ⌝ }
-{
-    if footprints_meet(footprint_of(r), footprint_of(s)) {
-        return ranges_conflict(r, s);
-    }
-    false
 }

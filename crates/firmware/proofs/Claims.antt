@@ -1,11 +1,12 @@
--- What the board answers to a call whose table was copied out of a lent one, told of the lent table: it is the whole of that call, and
--- what it lays back has its place. And the steps of a chain, which are read off such a copy.
+-- What the board answers to a run whose table was copied out of a lent one, told of the lent table: it is the whole of that run. And a
+-- pick and a run over a table that is too short; and the steps of a chain, which are read off such a copy.
 use mathlib.Core.Path.{_≡_, refl, sym, _∙_, ap}
 use Prim.Native.Nat.{ℕ, _≤_, _<_, min}
 use native.Mathlib.Omega.{arith}
 use native.Mathlib.Decide.{decLt}
 use mathlib.Core.List.{List, append-nil}
 use lib.ListN.{length, take, drop}
+use lib.Dec.{eqb}
 use lib.Seq.{take-all, take-take, take-append-le, length-take-le}
 use Rattle.meaning.specs.declared.Drive.{Drive}
 use Rattle.meaning.specs.declared.Record.{Record}
@@ -13,16 +14,17 @@ use Rattle.meaning.specs.Store.{lent}
 use Rattle.meaning.specs.Each.{sumOf}
 use Rattle.meaning.specs.State.{State, mostCommands, stateOf}
 use Rattle.meaning.specs.Command.{stepsOf}
-use Rattle.meaning.specs.Pick.{PickGives}
-use Rattle.meaning.specs.Run.{Tally, byPicks, asWritten, runReply, RunGives, chainSteps}
+use Rattle.meaning.specs.Pick.{pickNumber, picked, PickGives}
+use Rattle.meaning.specs.Run.{Tally, atStart, byPicks, asWritten, runNumber, ranTo, RunGives, chainSteps}
 use Rattle.meaning.specs.Bench.{noRecords}
-use Rattle.meaning.proofs.Numbers.{pick-passed, run-passed, place-free, table-long, in-table}
-use Rattle.board.specs.declared.pick.PickedRecord.{PickedRecord}
+use Rattle.meaning.proofs.Rows.{pass, stop}
 use Rattle.board.specs.declared.run.RanTaken.{RanTaken}
-use Rattle.board.specs.Changes.{PickChanges, RunTakes}
-use Rattle.tables.proofs.Faces.{Begins, pick-face, picks-face, written-face}
-use Rattle.firmware.specs.Laid.{over, copiedOut, withRecord, withSteps}
+use Rattle.board.specs.Changes.{RunTakes, refusedRun}
+use Rattle.board.proofs.Runs.{reply-refused}
+use Rattle.tables.proofs.Faces.{Begins, picks-face, written-face}
+use Rattle.firmware.specs.Laid.{over, copiedOut, withSteps}
 use Rattle.firmware.proofs.Laying.{length-over}
+use Rattle.firmware.proofs.Walks.{short-sizes}
 
 -- a table by value has 32 records, and those of a lent table that is long enough are its first
 copied-long : (t : List Record) → length (copiedOut t) ≡ mostCommands
@@ -33,39 +35,40 @@ copied-front t h =
     let all : min (length t) mostCommands ≡ mostCommands = omega arith in
     sym (append-nil (take mostCommands t)) ∙ ap (λ (k : ℕ). over k t noRecords) (sym all)
 
-begins : (t : List Record) → Begins (length t) (copiedOut t) t
-begins t = record { as-long = refl; front = copied-front t }
-
 -- ---- a pick
 
-module _ (d : Drive) (n p : ℕ) (m i : List ℕ) (t : List Record) (r : PickedRecord) (m′ i′ : List ℕ) (changes : PickChanges d n p (length t) (stateOf m i (copiedOut t)) r (lent m′ i′)) where
-  pub pick-claim : PickGives d n p (stateOf m i t) (r .number) (stateOf m′ i′ (withRecord r p t))
-  pick-claim = pick-face d n (length t) (stateOf m i (copiedOut t)) t (copied-long t) (begins t) p r (lent m′ i′) changes
-
-  pub pick-placed : r .number ≡ 0 → p < length t
-  unfolding PickGives
-  pick-placed e =
-      let q = pick-passed d n (stateOf m i t) p (sym (pick-claim .0) ∙ e) in
-      let used = place-free t n p (q .1) .inUse in
-      let few = in-table d n (stateOf m i t) (q .0) in
-      omega arith
+-- over a table that is too short it gets 1, and changes nothing
+pub short-pick : (d : Drive) (n p : ℕ) (m i : List ℕ) (t : List Record) → length t < mostCommands → PickGives d n p (stateOf m i t) 1 (stateOf m i t)
+unfolding PickGives pickNumber picked
+short-pick d n p m i t h =
+    let one : pickNumber d n p (stateOf m i t) ≡ 1 = stop _ _ _ (short-sizes d m i t h) in
+    (sym one, sym (pass _ _ _ (ap (λ (k : ℕ). eqb k 0) one)))
 
 -- ---- a run
 
--- one that is not refused had a table that is long enough
-module _ (d : Drive) (n : ℕ) (go : State → Tally) (m i : List ℕ) (t : List Record) (r : RanTaken) (m′ i′ : List ℕ) (t′ : List Record) (claim : RunGives d n go (stateOf m i t) (r .ran) (stateOf m′ i′ t′)) where
-  pub run-long : r .ran .number ≡ 0 → mostCommands ≤ length t
-  unfolding RunGives runReply
-  run-long e = table-long d n (stateOf m i t) (run-passed d n (stateOf m i t) (sym (ap (λ x. x .number) (claim .0)) ∙ e))
+module _ (d : Drive) (n : ℕ) (m i : List ℕ) (t : List Record) where
+  -- over a table that is too short it gets 1, and changes nothing
+  pub short-run : (go : State → Tally) → length t < mostCommands → RunGives d n go (stateOf m i t) (refusedRun 1) (stateOf m i t)
+  unfolding RunGives ranTo runNumber
+  short-run go h =
+      let s = stateOf m i t in
+      let one : runNumber d n s ≡ 1 = stop _ _ _ (short-sizes d m i t h) in
+      let off = ap (λ (k : ℕ). eqb k 0) one in
+      (ap refusedRun (sym one) ∙ sym (reply-refused d n go s off), sym (ap (λ (y : Tally). y .state) (pass (eqb (runNumber d n s) 0) (go s) (atStart s) off)))
 
-module _ (d : Drive) (n : ℕ) (m i : List ℕ) (t : List Record) (r : RanTaken) (m′ i′ : List ℕ) where
-  pub picks-claim : (ps : List ℕ) → RunTakes d n (byPicks d n ps) (length t) (stateOf m i (copiedOut t)) r (lent m′ i′)
-      → RunGives d n (byPicks d n ps) (stateOf m i t) (r .ran) (stateOf m′ i′ (withSteps r t))
-  picks-claim ps takes = picks-face d n (length t) (stateOf m i (copiedOut t)) t (copied-long t) (begins t) ps r (lent m′ i′) takes
+  -- one that is long enough is seen by its first 32 records
+  module _ (r : RanTaken) (m′ i′ : List ℕ) (long : mostCommands ≤ length t) where
+    abbrev u : List Record
+    u = take mostCommands t
 
-  pub written-claim : (b : ℕ) → RunTakes d n (asWritten d n b) (length t) (stateOf m i (copiedOut t)) r (lent m′ i′)
-      → RunGives d n (asWritten d n b) (stateOf m i t) (r .ran) (stateOf m′ i′ (withSteps r t))
-  written-claim b takes = written-face d n (length t) (stateOf m i (copiedOut t)) t (copied-long t) (begins t) b r (lent m′ i′) takes
+    begins-so : Begins (length t) u t
+    begins-so = record { as-long = refl; front = λ _. refl }
+
+    pub picks-claim : (ps : List ℕ) → RunTakes d n (byPicks d n ps) (length t) (stateOf m i u) r (lent m′ i′) → RunGives d n (byPicks d n ps) (stateOf m i t) (r .ran) (stateOf m′ i′ (withSteps r t))
+    picks-claim ps takes = picks-face d n (length t) (stateOf m i u) t (length-take-le mostCommands t long) begins-so ps r (lent m′ i′) takes
+
+    pub written-claim : (b : ℕ) → RunTakes d n (asWritten d n b) (length t) (stateOf m i u) r (lent m′ i′) → RunGives d n (asWritten d n b) (stateOf m i t) (r .ran) (stateOf m′ i′ (withSteps r t))
+    written-claim b takes = written-face d n (length t) (stateOf m i u) t (length-take-le mostCommands t long) begins-so b r (lent m′ i′) takes
 
 -- ---- the steps of a chain
 

@@ -2,9 +2,9 @@
 -- record. Then what the parts of a call give together, and the walks that calls share. Last the theorems about the contracts.
 pub mod Records
 pub mod Laying
+pub mod Making
 pub mod Walks
 pub mod Claims
-pub mod Lent
 pub mod Parameters
 pub mod Running
 pub mod Agree

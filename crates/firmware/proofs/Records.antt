@@ -1,15 +1,10 @@
--- The elements of the arrays and slices that the walks by hand go through: records, and numbers of steps.
-use mathlib.Core.Path.{sym, _∙_}
+-- The elements of the arrays and slices that the walks by hand go through: records, and numbers, which are steps taken or addresses.
 use Prim.Native.Nat.{ℕ, _*_, _+_, _≤_, _<_, _^_}
 use native.Mathlib.Omega.{arith}
-use mathlib.Core.List.{List, [], _∷_, map}
-use lib.ListN.{length-map}
+use mathlib.Core.List.{List}
 use mir.Syntax.{w32}
 use mir.Val.{Val}
 use denote.RattleType.{RattleType}
-use denote.Array.{Array, each}
-use denote.Laws.{Is}
-use denote.Shadow.{shadow}
 use denote.Plain.{uint-vals, uint-tells, uint-lawful, uint-makes}
 use denote.Builtin.{u32}
 use denote.Struct.Laws as LL
@@ -22,12 +17,12 @@ use Rattle.hand.proofs.Arrays.{Element}
 abbrev pub R : RattleType
 R = Rec.the-row
 
--- the bytes of a record, and of a number of steps
+-- the bytes of a record, and of a number
 abbrev pub recordSize : ℕ
 recordSize = 280
 
-abbrev pub stepsSize : ℕ
-stepsSize = 4
+abbrev pub numberSize : ℕ
+numberSize = 4
 
 -- a record's machine value
 abbrev pub recordVals : Record → List Val
@@ -51,16 +46,6 @@ a-number = record {
   makes = λ 𝓤 H A W. uint-makes 𝓤 H A W w32;
 }
 
--- A struct holds its array's records as tuples of their fields: what is known of those is known of the records.
-each-of : (xs : List Record) (us : List Val) → shadow (each (Rec.the-field .row .Denot) (Rec.the-field .row .own) (map (Rec.the-field .into) xs) us) → shadow (each Record (R .own) xs us)
-each-of [] [] p = p
-each-of [] (u ∷ us) p = p
-each-of (x ∷ xs) [] p = p
-each-of (x ∷ xs) (u ∷ us) p = (p .0, each-of xs us (p .1))
-
-pub array-field : (c : ℕ) (xs : List Record) (vs : List Val) → Is (Array (Rec.the-field .row) c) (map (Rec.the-field .into) xs) vs → Is (Array R c) xs vs
-array-field c xs vs p = (p .0, ((p .1 .0 .0, sym (length-map xs (Rec.the-field .into)) ∙ p .1 .0 .1), each-of xs (p .0) (p .1 .1)))
-
 -- a place before the 32nd: it, the place after it and the bytes before it are numbers of the machine
 module _ {k n : ℕ} (here : k < n) (few : n ≤ mostCommands) where
   pub next-fits : k + 1 < 2 ^ 64
@@ -69,5 +54,5 @@ module _ {k n : ℕ} (here : k < n) (few : n ≤ mostCommands) where
   pub records-fit : k * recordSize < 2 ^ 64
   records-fit = omega arith
 
-  pub steps-fit : k * stepsSize < 2 ^ 64
-  steps-fit = omega arith
+  pub numbers-fit : k * numberSize < 2 ^ 64
+  numbers-fit = omega arith

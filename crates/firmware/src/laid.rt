@@ -1,20 +1,28 @@
-// How records go between a table that is lent as a run of records and one by value: a call copies the records out once, and lays back
-// only what it changed. The functions over the lent run are proved by hand.
-use board::pick::PickedRecord;
+// How records go into a table that is lent as a run of records, and out of it: the walk makes them in their places; a run copies them out
+// once, and lays back only what it changed. The functions over the lent run are proved by hand.
+use board::pick::PickedTaken;
+use board::pick::Sight;
 use board::run::RanTaken;
 use board::table;
 use chain::links;
+use chain::walk;
 use chain::walk::MOST_COMMANDS;
+use command::sound;
+use command::touch;
+use meaning::Drive;
 use meaning::Ran;
 use meaning::Record;
 ghost use mathlib.Core.Path.{_≡_};
 ghost use mathlib.Core.Bool.{cond};
 ghost use Prim.Native.Nat.{_≤_, _<_};
-ghost use lib.ListN.{length};
+ghost use lib.ListN.{length, getD};
 ghost use lib.Dec.{eqb};
 ghost use Rattle.meaning.specs.State.{mostCommands};
+ghost use Rattle.meaning.specs.Command.{noRecord};
 ghost use Rattle.meaning.specs.Bench.{noRecords};
-ghost use Rattle.firmware.specs.Laid.{over, copiedOut, withRecord, withSteps};
+ghost use Rattle.board.specs.Sight.{sightOf, withPicked};
+ghost use Rattle.chain.specs.Records.{filledAt};
+ghost use Rattle.firmware.specs.Laid.{over, copiedOut, withSteps};
 
 // A table of no records.
 pub(crate) fn blank() -> [Record; 32]
@@ -43,7 +51,7 @@ pub(crate) fn changed(number: u8) -> usize
 }
 
 // The first n records of the lent table, before records of zeros.
-fn load_first(table: &[Record], n: usize) -> [Record; 32]
+pub(crate) fn load_first(table: &[Record], n: usize) -> [Record; 32]
     requires { ⌜ (n ≤ length (now table)) × (n ≤ mostCommands) ⌝ }
     ensures { λ t. ⌜ t ≡ over n (now (table .entry)) noRecords ⌝ }
 {
@@ -68,25 +76,59 @@ pub(crate) fn load(table: &[Record]) -> [Record; 32]
     load_first(table, MOST_COMMANDS)
 }
 
-// The first n of these records, laid over those of the lent table.
-pub(crate) fn fill(table: &mut [Record], records: [Record; 32], n: usize)
+// The records of the IOPBs at the first n of these addresses, made in their places of the lent table. One without a list is made apart, by
+// a store of its own: so the compiler lays its zeros there, and copies none.
+pub(crate) fn fill(memory: &[u8], d: Drive, addresses: [u32; 32], n: usize, table: &mut [Record])
     requires { ⌜ (n ≤ length (now table)) × (n ≤ mostCommands) ⌝ }
-    ensures { λ _. ⌜ now (table .exit) ≡ over n records (now (table .entry)) ⌝ }
+    ensures { λ _. ⌜ now (table .exit) ≡ filledAt (now (memory .entry)) d n addresses (now (table .entry)) ⌝ }
 {
     let mut k = 0;
     while k < n {
-        table[k] = records[k];
+        let at = addresses[k];
+        if iopb::sgm(memory, at) == 1 {
+            table[k] = walk::record_at(memory, d, at);
+        } else {
+            table[k] = walk::plain_record_at(memory, d, at);
+        }
         k += 1;
     }
 }
 
-// The record that a pick changed, laid at its place; the pick's number is handed on.
-pub(crate) fn put_record(table: &mut [Record], place: usize, p: PickedRecord) -> u8
+// What a pick sees of a lent table, of which n records are in use. The ranges of two commands are tested only where their footprints meet.
+pub(crate) fn look_over(table: &[Record], memory: u64, d: Drive, n: usize, place: usize) -> Sight
+    requires { ⌜ (mostCommands ≤ length (now table)) × ((n ≤ mostCommands) × (place < mostCommands)) ⌝ }
+    ensures { λ s. ⌜ s ≡ sightOf memory d n place (now (table .entry)) ⌝ }
+{
+    let wanted = touch::footprint_of(table[place]);
+    let mut bad = false;
+    let mut blocked = false;
+    let mut k = 0;
+    while k < n {
+        let l = sound::look(memory, d, table[k], wanted, k < place);
+        bad = bad | l.bad;
+        if l.near {
+            blocked = blocked | touch::ranges_conflict(table[k], table[place]);
+        }
+        k += 1;
+    }
+    Sight { bad, blocked }
+}
+
+// The record at a place of the lent table.
+pub(crate) fn record_at(table: &[Record], place: usize) -> Record
+    requires { ⌜ place < length (now table) ⌝ }
+    ensures { λ r. ⌜ r ≡ getD (now (table .entry)) place noRecord ⌝ }
+{
+    table[place]
+}
+
+// The steps that a pick took, laid at its place; the pick's number is handed on.
+pub(crate) fn put_taken(table: &mut [Record], place: usize, p: PickedTaken) -> u8
     requires { ⌜ (p .number ≡ 0 → place < length (now table)) ⌝ }
-    ensures { λ n. ⌜ (n ≡ p .number) × (now (table .exit) ≡ withRecord p place (now (table .entry))) ⌝ }
+    ensures { λ n. ⌜ (n ≡ p .number) × (now (table .exit) ≡ withPicked p place (now (table .entry))) ⌝ }
 {
     if p.number == 0 {
-        table[place] = p.after;
+        table[place] = table::with_taken(table[place], p.taken);
     }
     p.number
 }

@@ -1,33 +1,19 @@
 // The walk, the pick, the two runs and a chain's steps over a table that is lent as a run of records, for C and Rust to call. They are
-// thin over the functions on a table by value, and mean the same (Record 2); a lent table shorter than 32 gets 1 (Size 4).
+// thin over functions on values, and mean the same as those on a table by value (Record 2); a lent table shorter than 32 gets 1 (Size 4).
+// The walk makes its records where they lie in the lent table, so that none is copied. The runs test the length before they copy the table
+// out, not after: with one case left, of exactly 32 records, the compiler makes one copy and fills nothing.
 use crate::laid;
+use chain::walk::MOST_COMMANDS;
 use meaning::Drive;
 use meaning::Ran;
 use meaning::Record;
 use meaning::Walked;
-use meaning::WalkedTable;
 ghost use mathlib.Core.Path.{_≡_};
 ghost use Prim.Native.Nat.{min};
 ghost use Rattle.meaning.specs.State.{mostCommands, stateOf};
 ghost use Rattle.meaning.specs.Walk.{WalkGives};
 ghost use Rattle.meaning.specs.Pick.{PickGives};
 ghost use Rattle.meaning.specs.Run.{chainSteps, byPicks, asWritten, RunGives};
-ghost use Rattle.firmware.specs.Laid.{walkedFor};
-
-// The walk for a lent table of this length: it fills a table of no records.
-fn walk_for(memory: &[u8], image: &[u8], d: Drive, start: u32, length: usize) -> WalkedTable
-    ensures { λ w. ⌜ w ≡ walkedFor d start length (now (memory .entry)) (now (image .entry)) ⌝ }
-{
-    let table = laid::blank();
-    if length < chain::walk::MOST_COMMANDS {
-        let walked = Walked {
-            number: 1,
-            commands: 0,
-        };
-        return WalkedTable { walked, table };
-    }
-    chain::walk::walk(memory, image, d, start, table)
-}
 
 // The walk: records past the last command, and all of them on a refusal, are left alone (Walk 1 to 10, Record 7).
 #[no_mangle]
@@ -40,9 +26,9 @@ pub extern "C" fn rosadenca_walk(
 ) -> Walked
     ensures { λ w. ⌜ WalkGives drive start (stateOf (now (memory .entry)) (now (image .entry)) (now (table .entry))) w (now (table .exit)) ⌝ }
 {
-    let w = walk_for(memory, image, drive, start, table.len());
-    let walked = w.walked;
-    laid::fill(table, w.table, walked.commands);
+    let f = chain::walk::find(memory, image, drive, start, table.len());
+    let walked = f.walked;
+    laid::fill(memory, drive, f.addresses, walked.commands, table);
     walked
 }
 
@@ -59,9 +45,16 @@ pub extern "C" fn rosadenca_pick<'a>(
     ensures { λ n. ⌜ PickGives drive commands place (stateOf (now (memory .entry)) (now (image .entry)) (now (table .entry))) n (stateOf (now (memory .exit)) (now (image .exit)) (now (table .exit))) ⌝ }
 {
     let length = table.len();
-    let t = laid::load(table);
-    let p = board::pick::pick_record(memory, image, drive, t, length, commands, place);
-    laid::put_record(table, place, p)
+    if length < MOST_COMMANDS {
+        return 1;
+    }
+    let size = memory.len() as u64;
+    let at = board::pick::place_seen(place);
+    let used = board::run::in_table(commands);
+    let seen = laid::look_over(table, size, drive, used, at);
+    let r = laid::record_at(table, at);
+    let p = board::pick::pick_seen(memory, image, drive, r, seen, commands, place);
+    laid::put_taken(table, place, p)
 }
 
 // A run by picks: a refused pick is passed over, and counted (Run 1 to 4).
@@ -77,7 +70,10 @@ pub extern "C" fn rosadenca_run_picks<'a>(
     ensures { λ r. ⌜ RunGives drive commands (byPicks drive commands (now (picks .entry))) (stateOf (now (memory .entry)) (now (image .entry)) (now (table .entry))) r (stateOf (now (memory .exit)) (now (image .exit)) (now (table .exit))) ⌝ }
 {
     let length = table.len();
-    let t = laid::load(table);
+    if length < MOST_COMMANDS {
+        return board::run::refused(1);
+    }
+    let t = laid::load_first(table, MOST_COMMANDS);
     let r = board::run::picks_taken(memory, image, drive, t, length, commands, picks);
     laid::put_steps(table, r)
 }
@@ -95,7 +91,10 @@ pub extern "C" fn rosadenca_run_written<'a>(
     ensures { λ r. ⌜ RunGives drive commands (asWritten drive commands budget) (stateOf (now (memory .entry)) (now (image .entry)) (now (table .entry))) r (stateOf (now (memory .exit)) (now (image .exit)) (now (table .exit))) ⌝ }
 {
     let length = table.len();
-    let t = laid::load(table);
+    if length < MOST_COMMANDS {
+        return board::run::refused(1);
+    }
+    let t = laid::load_first(table, MOST_COMMANDS);
     let r = board::run::written_taken(memory, image, drive, t, length, commands, budget);
     laid::put_steps(table, r)
 }

@@ -74,3 +74,9 @@ pub last-list : {M : Type 1} (𝓤 : URA M) (H : Heap 𝓤) (A : Atoms 𝓤) →
 last-list 𝓤 H A W R γ xs =
     qed W (‵ (fobs γ (codedHoleys R .code (heres R xs))) ∷ []) ∵ use1 W (‵ (fres γ (codedHoleys R .code (heres R xs)))) (W .names .obs-res γ (codedHoleys R .code (heres R xs))) $
     by ! (res-finally 𝓤 H A W static [] R γ xs)
+
+-- and one that is given up as it came: its last list is what it holds
+pub gives-up : {M : Type 1} (𝓤 : URA M) (H : Heap 𝓤) (A : Atoms 𝓤) → Given 𝓤 H A → (R : RattleType) (ℓ : Lifetime) (κ : Lft) (x : RefT (List (R .Denot))) (vs : List Val)
+    → ent 𝓤 (sem 𝓤 H A (MutSlice ℓ κ R .own x vs)) (sem 𝓤 H A (finally R (x .name) (x .now)))
+gives-up 𝓤 H A W R ℓ κ x vs =
+    qed W (‵ (MutSlice ℓ κ R .own x vs) ∷ []) ∵ fsplit ! $ drop ! $ fsplit ! $ move ! (1 ∷ []) $ drop ! $ by ! (last-list 𝓤 H A W R (x .name) (x .now))

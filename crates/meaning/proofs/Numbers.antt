@@ -6,8 +6,8 @@ use native.Mathlib.Omega.{arith}
 use mathlib.Core.Bool.{Bool, true, false, not, _||_, cond, false≢true}
 use mathlib.Core.List.{List, [], _∷_}
 use lib.ListN.{length, getD, take}
-use lib.Dec.{ltb}
-use borrow.Author.Tests.{ltb-false, le-ltb, leb-false, lt-leb}
+use lib.Dec.{ltb, eqb}
+use borrow.Author.Tests.{ltb-false, le-ltb, leb-false, lt-leb, eq-eqb}
 use Rattle.meaning.specs.declared.Drive.{Drive}
 use Rattle.meaning.specs.declared.Record.{Record}
 use Rattle.meaning.specs.First.{Row, firstOf}
@@ -42,6 +42,21 @@ rows-off (r ∷ rows) z e h =
     let t = and-true (told r) (everyOf told rows) h in
     let q = row-off (r .applies) (r .gives) (firstOf rows z) e (t .0) in
     (q .0, rows-off rows z (q .1) (t .1))
+
+-- the same of any other number: no row applies that gives another than N, or is known not to apply, where N is given
+abbrev pub toldBut : ℕ → Row → Bool
+toldBut N r = not (eqb (r .gives) N) || not (r .applies)
+
+pub rows-but : (N : ℕ) (rows : List Row) (z : ℕ) → firstOf rows z ≡ N → everyOf (toldBut N) rows ≡ true → All Off rows
+rows-but N [] z e h = tt
+rows-but N (r ∷ rows) z e h =
+    let t = and-true (toldBut N r) (everyOf (toldBut N) rows) h in
+    let q = go (r .applies) e (t .0) in
+    (q .0, rows-but N rows z (q .1) (t .1))
+  where
+    go : (b : Bool) → cond b (r .gives) (firstOf rows z) ≡ N → (not (eqb (r .gives) N) || not b) ≡ true → (b ≡ false) × (firstOf rows z ≡ N)
+    go true e h = absurd (false≢true (rw (eq-eqb (r .gives) N e) at h))
+    go false e h = (refl, e)
 
 -- no row applies: the number is the last one
 pub off-last : (rows : List Row) (z : ℕ) → All Off rows → firstOf rows z ≡ z

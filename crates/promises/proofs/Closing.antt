@@ -17,7 +17,7 @@ use Rattle.promises.proofs.StepMoves.{step-moves-one}
 
 -- bits 5 to 0 of b, 1 and e
 module _ (b e : ℕ) (small : e < 2) where
-  low-bits : (k : ℕ) → k < 6 → bit k (b % 64 + 64 + 128 * e) ≡ bit k b
+  pub low-bits : (k : ℕ) → k < 6 → bit k (b % 64 + 64 + 128 * e) ≡ bit k b
   low-bits zero h = omega arith
   low-bits (suc zero) h = omega arith
   low-bits (suc (suc zero)) h = omega arith
@@ -26,21 +26,21 @@ module _ (b e : ℕ) (small : e < 2) where
   low-bits (suc (suc (suc (suc (suc zero))))) h = omega arith
   low-bits (suc (suc (suc (suc (suc (suc k)))))) h = absurd (omega arith)
 
-  bit-6 : bit 6 (b % 64 + 64 + 128 * e) ≡ 1
+  pub bit-6 : bit 6 (b % 64 + 64 + 128 * e) ≡ 1
   bit-6 = omega arith
 
-  bit-7 : bit 7 (b % 64 + 64 + 128 * e) ≡ e
+  pub bit-7 : bit 7 (b % 64 + 64 + 128 * e) ≡ e
   bit-7 = omega arith
 
 -- ERRS: 1 exactly if the code is not 00
 abbrev errsIf : Bool → ℕ
 errsIf zeroCode = cond zeroCode 0 1
 
-errsOf : Record → ℕ
+unfoldable pub errsOf : Record → ℕ
 errsOf r = errsIf (eqb (r .code) 0)
 
 module _ (r : Record) where
-  errs-small : errsOf r < 2
+  pub errs-small : errsOf r < 2
   unfolding errsOf
   errs-small = go (means-eq (r .code) 0)
     where
@@ -56,7 +56,7 @@ module _ (r : Record) where
       go (holds e) = ((λ h. absurd (omega arith)), λ n. absurd (n e))
       go (fails n) = ((λ _. n), λ _. refl)
 
-  closing-byte-0 : closingByte0 r ≡ r .byte0 % 64 + 64 + 128 * errsOf r
+  pub closing-byte-0 : closingByte0 r ≡ r .byte0 % 64 + 64 + 128 * errsOf r
   unfolding closingByte0 errsOf
   closing-byte-0 = go (eqb (r .code) 0)
     where

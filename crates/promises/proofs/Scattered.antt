@@ -1,39 +1,27 @@
 -- What moves of pieces leave, byte by byte. Each piece holds some bytes of the data, in their order, and goes from one space to another;
 -- later pieces hold later bytes. So a byte of the data comes to its place, unless a later byte has the same place, and nothing else changes.
--- Then the pieces of a step: they hold exactly the bytes of its sector, each where the ranges laid end to end have it.
+-- And where byte o of a range is, among the ranges laid end to end.
 use mathlib.Core.Path.{_≡_, refl, sym, ap, _∙_}
 use mathlib.Core.Logic.{_≢_, inl, inr}
 use Prim.Native.Nat.{ℕ, zero, suc, _+_, _-_, _≤_, _<_}
 use native.Mathlib.Nat.{zero-add, not-suc-le-zero, le-of-suc-le-suc}
-use native.Mathlib.Decide.{decLt}
 use native.Mathlib.Omega.{arith}
-use mathlib.Core.Bool.{true, false, true≢false}
+use mathlib.Core.Bool.{false, true≢false}
 use mathlib.Core.List.{List, [], _∷_, map}
 use lib.ListN.{length, getD, take}
 use borrow.Author.Tests.{lt-ltb, le-ltb}
 use Rattle.meaning.specs.Store.{Space, same, Store, area, Move, copy, move, moves}
-use Rattle.meaning.specs.Ranges.{Range}
 use Rattle.meaning.specs.Links.{bytesIn}
-use Rattle.meaning.specs.Pieces.{Piece, byteAt, before, pieceOf, piecesOf}
+use Rattle.meaning.specs.Pieces.{Piece, byteAt}
 use Rattle.meaning.specs.Conditions.{Within, SomeOf}
 use Rattle.meaning.proofs.All.{All, all-map}
 use Rattle.meaning.proofs.Means.{is-true}
 use Rattle.meaning.proofs.Rows.{pass, stop}
 use Rattle.meaning.proofs.Spaces.{AsLong, length-moves}
 use Rattle.meaning.proofs.Ranges.{means-same}
-use Rattle.meaning.proofs.Conditions.{Inside}
-use Rattle.meaning.proofs.Pieces.{piece-to, piece-asked}
+use Rattle.meaning.proofs.Pieces.{Holds, Sorted}
 use Rattle.promises.specs.StepMoves.{ByteOfRange}
 use Rattle.promises.proofs.Bytes.{copied-in, copied-out}
-
--- byte v of the data lies in a piece
-abbrev pub Holds : ℕ → Piece → Type 0
-Holds v p = (p .at ≤ v) × (v < p .at + p .many)
-
--- later pieces hold later bytes
-abbrev pub Sorted : List Piece → Type 0
-Sorted [] = Unit {0}
-Sorted (p ∷ ps) = All (λ q. p .at + p .many ≤ q .at) ps × Sorted ps
 
 -- from space Q to space P, piece p from `from p` to `to p`; byte v of the data comes from S v and goes to D v
 module _ (Q P : Space) (other : same Q P ≡ false) (from to : Piece → ℕ) (S D : ℕ → ℕ) where
@@ -95,73 +83,6 @@ module _ (Q P : Space) (other : same Q P ≡ false) (from to : Piece → ℕ) (S
       ∙ ap (λ (x : ℕ). getD (s Q) x 0) comes
   all-in (p ∷ ps) h o s f v (inr k) later =
       all-in ps (h .1) (o .1) (move (moving p) s) (later-fits p s ps (f .1)) v k (λ w l m. later w l (inr m)) ∙ source-stays p s (S v)
-
--- ---- the pieces of ranges laid end to end
-
-module _ (lo hi : ℕ) where
-  -- they begin where their range does, or later
-  begins : (rs : List Range) (b : ℕ) → All (λ p. b ≤ p .at) (piecesOf rs b lo hi)
-  begins [] b = tt
-  begins (x ∷ rs) b =
-      (omega arith, all-map (λ p. b + x .many ≤ p .at) (λ p. b ≤ p .at) (λ p h. omega arith) (piecesOf rs (b + x .many) lo hi) (begins rs (b + x .many)))
-
-  ends : (x : Range) (b : ℕ) → pieceOf x b lo hi .at + pieceOf x b lo hi .many ≤ b + x .many
-  ends x b = omega arith
-
-  pub pieces-sorted : (rs : List Range) (b : ℕ) → Sorted (piecesOf rs b lo hi)
-  pieces-sorted [] b = tt
-  pieces-sorted (x ∷ rs) b =
-      let e = ends x b in (
-        all-map (λ p. b + x .many ≤ p .at) (λ p. pieceOf x b lo hi .at + pieceOf x b lo hi .many ≤ p .at) (λ p h. omega arith) (piecesOf rs (b + x .many) lo hi) (begins rs (b + x .many)),
-        pieces-sorted rs (b + x .many),
-      )
-
-  -- they hold bytes from lo up to hi, and all of those
-  pub held-asked : (rs : List Range) (b v : ℕ) → SomeOf (Holds v) (piecesOf rs b lo hi) → (lo ≤ v) × (v < hi)
-  held-asked [] b v k = absurd k
-  held-asked (x ∷ rs) b v (inl k) = let q = piece-asked x b lo hi (omega arith) in (omega (arith, q .0), omega (arith, q .1))
-  held-asked (x ∷ rs) b v (inr k) = held-asked rs (b + x .many) v k
-
-  pub asked-held : (rs : List Range) (b v : ℕ) → lo ≤ v → v < hi → b ≤ v → v < b + bytesIn rs → SomeOf (Holds v) (piecesOf rs b lo hi)
-  asked-held [] b v l h m t = absurd (omega arith)
-  asked-held (x ∷ rs) b v l h m t =
-      elim (decLt v (b + x .many)) [
-        | yes here ↦ inl (omega arith, omega arith)
-        | no past ↦ inr (asked-held rs (b + x .many) v l h (omega arith) (omega arith))
-      ]
-
-  -- each where the ranges have it
-  pub pieces-at : (rs : List Range) (b : ℕ) → All (λ p. (i : ℕ) → i < p .many → p .from + i ≡ byteAt rs (p .at + i - b)) (piecesOf rs b lo hi)
-  pieces-at [] b = tt
-  pieces-at (x ∷ rs) b = ((λ i h. first i h), all-map-at (piecesOf rs (b + x .many) lo hi) (begins rs (b + x .many)) (pieces-at rs (b + x .many)))
-    where
-      s₁ : ℕ
-      s₁ = before x b lo
-
-      first : (i : ℕ) → i < pieceOf x b lo hi .many → x .from + s₁ + i ≡ byteAt (x ∷ rs) (b + s₁ + i - b)
-      first i h =
-          let less : b + s₁ + i - b < x .many = omega arith in
-          let at : x .from + s₁ + i ≡ x .from + (b + s₁ + i - b) = omega arith in
-          at ∙ sym (stop _ _ _ (lt-ltb (b + s₁ + i - b) (x .many) less))
-
-      all-map-at : (ps : List Piece) → All (λ p. b + x .many ≤ p .at) ps → All (λ p. (i : ℕ) → i < p .many → p .from + i ≡ byteAt rs (p .at + i - (b + x .many))) ps
-          → All (λ p. (i : ℕ) → i < p .many → p .from + i ≡ byteAt (x ∷ rs) (p .at + i - b)) ps
-      all-map-at [] u v = tt
-      all-map-at (p ∷ ps) u v = (
-        (λ i h.
-            let past : x .many ≤ p .at + i - b = let z = u .0 in omega arith in
-            let at : p .at + i - (b + x .many) ≡ p .at + i - b - x .many = omega arith in
-            v .0 i h ∙ ap (byteAt rs) at ∙ sym (pass _ _ _ (le-ltb (p .at + i - b) (x .many) past))),
-        all-map-at ps (u .1) (v .1),
-      )
-
-  pub pieces-asked : (rs : List Range) (b : ℕ) → All (λ p. 1 ≤ p .many → (lo ≤ p .at) × (p .at + p .many ≤ hi)) (piecesOf rs b lo hi)
-  pieces-asked [] b = tt
-  pieces-asked (x ∷ rs) b = (piece-asked x b lo hi, pieces-asked rs (b + x .many))
-
-  pub pieces-inside : (n : ℕ) (rs : List Range) (b : ℕ) → All (Inside n) rs → All (λ p. p .from + p .many ≤ n) (piecesOf rs b lo hi)
-  pieces-inside n [] b h = tt
-  pieces-inside n (x ∷ rs) b h = (omega (arith, piece-to x b lo hi, h .0), pieces-inside n rs (b + x .many) (h .1))
 
 -- ---- byte by byte of the ranges themselves
 

@@ -23,10 +23,11 @@ use Rattle.meaning.proofs.Means.{Means, holds, fails, when-false, is-true, is-f
 use Rattle.meaning.proofs.Spaces.{moves-append, length-moves}
 use Rattle.meaning.proofs.Ranges.{means-same}
 use Rattle.meaning.proofs.Conditions.{image-size, not-both, means-reads, means-writes, means-transfers, means-bad-record, Inside, Good, good}
+use Rattle.meaning.proofs.Pieces.{Holds, asked-held, held-asked, pieces-at, pieces-asked, pieces-inside, in-list-order}
 use Rattle.meaning.proofs.Still.{step-keeps-lengths}
 use Rattle.promises.specs.StepMoves.{MayStep, onImage, inMemory, Last, Fetched, Kept, Posted, StepMovesOne}
 use Rattle.promises.proofs.Bytes.{put-in, put-out}
-use Rattle.promises.proofs.Scattered.{Holds, Straight, moving, all-out, all-in, pieces-sorted, held-asked, asked-held, pieces-at, pieces-asked, pieces-inside}
+use Rattle.promises.proofs.Scattered.{Straight, moving, all-out, all-in}
 
 -- ---- the sector, of any record
 
@@ -106,7 +107,7 @@ module _ (r : Record) where
   fetches : (s : Store) → DataIn r s → (j : ℕ) → j < sectorBytes → ((i : ℕ) → j < i → i < sectorBytes → inMemory r i ≢ inMemory r j)
       → getD (moves (map (moving theDisk memory refl on-disk in-memory diskAt memoryAt) ps) s memory) (inMemory r j) 0 ≡ getD (s theDisk) (onImage r + j) 0
   fetches s d j h later =
-      all-in theDisk memory refl on-disk in-memory diskAt memoryAt ps reading (pieces-sorted lo hi (dataBytes r) 0) s
+      all-in theDisk memory refl on-disk in-memory diskAt memoryAt ps reading (in-list-order r (r .taken)) s
       (all-map _ _ (λ p f k. (f .0, f .1 k)) ps (inside-both s d)) (lo + j) (byte-held s d j h)
       (λ w l k e. let q = of-held w k in later (w - lo) (omega arith) (omega (arith, q .1)) (sym (memory-byte w (q .0)) ∙ e))
       ∙ ap (λ (x : ℕ). getD (s theDisk) x 0) (disk-byte j)
@@ -115,7 +116,7 @@ module _ (r : Record) where
       → getD (moves (map (moving memory theDisk refl in-memory on-disk memoryAt diskAt) ps) s theDisk) (onImage r + j) 0 ≡ getD (s memory) (inMemory r j) 0
   keeps s d j h =
       ap (λ (x : ℕ). getD (moves (map (moving memory theDisk refl in-memory on-disk memoryAt diskAt) ps) s theDisk) x 0) (sym (disk-byte j))
-      ∙ all-in memory theDisk refl in-memory on-disk memoryAt diskAt ps writing (pieces-sorted lo hi (dataBytes r) 0) s
+      ∙ all-in memory theDisk refl in-memory on-disk memoryAt diskAt ps writing (in-list-order r (r .taken)) s
       (all-map _ _ (λ p f k. (f .1 k, f .0)) ps (inside-both s d)) (lo + j) (byte-held s d j h)
       (λ w l k e. let q = of-held w k in omega (arith, e, q .0))
 

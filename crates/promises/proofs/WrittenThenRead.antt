@@ -1,5 +1,6 @@
 -- A sector written and read back is equal: the steps between leave each byte of it, since whole sectors are written and theirs is another.
--- And ranges that are disjoint lay each byte of the data in a place of its own.
+-- And ranges that are disjoint lay each byte of the data in a place of its own, as far as they reach: past the whole sector, since number 9
+-- was not given.
 use mathlib.Core.Path.{_≡_, refl, _∙_}
 use mathlib.Core.Logic.{_≢_, inl, inr}
 use Prim.Native.Nat.{ℕ, _+_, _-_, _*_, _<_}
@@ -19,12 +20,13 @@ use Rattle.meaning.specs.Touch.{dataBytes}
 use Rattle.meaning.specs.Pick.{stepAt}
 use Rattle.meaning.specs.Conditions.{Within, SomeOf}
 use Rattle.meaning.proofs.Means.{Means, holds, fails, means-lt}
+use Rattle.meaning.proofs.Pieces.{data-plain}
 use Rattle.promises.specs.StepMoves.{sectorOf}
 use Rattle.promises.specs.PickMoves.{commandAt}
-use Rattle.promises.specs.Taken.{stepsAt, Along}
-use Rattle.promises.specs.WrittenThenRead.{Spares, Disjoint, DisjointSuffices, WrittenThenRead}
-use Rattle.promises.proofs.StepMoves.{no-memory, step-stays}
-use Rattle.promises.proofs.PickMoves.{taken-moves-one}
+use Rattle.promises.specs.Taken.{stepsAt, Along, Taken}
+use Rattle.promises.specs.WrittenThenRead.{Spares, Disjoint, DisjointSuffices, PlainIsDisjoint, WrittenThenRead, ReadBackIfDisjoint}
+use Rattle.promises.proofs.StepMoves.{data-in, no-memory, step-stays}
+use Rattle.promises.proofs.PickMoves.{may-step, taken-moves-one}
 use Rattle.promises.proofs.Taken.{Accepted, along-after}
 
 -- a byte of sector k stays
@@ -67,18 +69,43 @@ one-place (x ∷ rs) d i j h l = go (means-lt i (x .many)) (means-lt j (x .many)
     go (fails p) (fails q) rest lies e = rest (omega arith) (omega arith) e
 
 pub disjoint-suffices : DisjointSuffices
-disjoint-suffices r d whole i j h l = one-place (dataBytes r) d (sectorBytes * r .taken + i) (sectorBytes * r .taken + j) (omega arith) (omega arith)
+disjoint-suffices d r s may t apart i j h l =
+    let whole = data-in d r s may t .whole in
+    one-place (dataBytes r) apart (sectorBytes * r .taken + i) (sectorBytes * r .taken + j) (omega arith) (omega arith)
+
+pub plain-is-disjoint : PlainIsDisjoint
+plain-is-disjoint r e = rw (data-plain r e) ((λ a w none. none), tt)
 
 -- ---- written and read back
+
+module _ (d : Drive) (n : ℕ) (before : List ℕ) (w : ℕ) (between : List ℕ) (r : ℕ) (after : List ℕ) (s s′ : State) (h : Taken d n (before ++ (w ∷ (between ++ (r ∷ after)))) s s′) where
+  abbrev s₁ : State
+  s₁ = stepsAt d before s
+
+  abbrev s₂ : State
+  s₂ = stepsAt d between (stepAt d w s₁)
+
+  -- both picks are accepted
+  from-w : Along d (Accepted d n) (w ∷ (between ++ (r ∷ after))) s₁
+  from-w = along-after d (Accepted d n) before (w ∷ (between ++ (r ∷ after))) s (h .accepted)
+
+  from-r : Along d (Accepted d n) (r ∷ after) s₂
+  from-r = along-after d (Accepted d n) between (r ∷ after) (stepAt d w s₁) (from-w .1)
 
 pub written-then-read : WrittenThenRead
 written-then-read d n before w between r after s s′ h writes reads same spares apart once j k =
     let s₁ = stepsAt d before s in
     let s₂ = stepsAt d between (stepAt d w s₁) in
-    let from-w = along-after d (Accepted d n) before (w ∷ (between ++ (r ∷ after))) s (h .accepted) in
-    let from-r = along-after d (Accepted d n) between (r ∷ after) (stepAt d w s₁) (from-w .1) in
-    let written = taken-moves-one d n w s₁ (from-w .0) .moved in
-    let back = taken-moves-one d n r s₂ (from-r .0) .moved in
+    let written = taken-moves-one d n w s₁ (from-w d n before w between r after s s′ h .0) .moved in
+    let back = taken-moves-one d n r s₂ (from-r d n before w between r after s s′ h .0) .moved in
     back .fetched reads j k (λ i l m. once j i l m) (apart j k)
     ∙ rw same (sector-stays d (sectorOf (commandAt s₁ w)) between (stepAt d w s₁) spares j k)
     ∙ written .kept writes j k
+
+-- number 9 was not given for the read, or its pick would not have been accepted
+pub read-back-if-disjoint : ReadBackIfDisjoint
+read-back-if-disjoint d n before w between r after s s′ h writes reads same spares apart disjoint =
+    let s₂ = stepsAt d between (stepAt d w (stepsAt d before s)) in
+    let may = may-step d n r s₂ (from-r d n before w between r after s s′ h .0) in
+    written-then-read d n before w between r after s s′ h writes reads same spares apart
+    (disjoint-suffices d (commandAt s₂ r) (s₂ .store) may (inl reads) disjoint)

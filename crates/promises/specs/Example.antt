@@ -1,21 +1,25 @@
 -- The promises speak of something: the example deck (Bench 10) is a chain with a read, a write and a command that fails, and the definitions
--- take it, step by step. Each stand-in board (Contract 4 to 8) gives another answer somewhere here.
+-- take it, step by step. Each stand-in board (Contract 4 to 8) gives another answer somewhere here. Then a read by a link
+-- list, byte by byte, and two commands that a list of one range makes alike.
 use mathlib.Core.Path.{_≡_}
-use Prim.Native.Nat.{ℕ}
-use mathlib.Core.Bool.{cond}
-use mathlib.Core.List.{List, [], _∷_, map}
-use lib.ListN.{getD, take}
+use Prim.Native.Nat.{ℕ, _%_}
+use mathlib.Core.Bool.{false, cond}
+use mathlib.Core.List.{List, [], _∷_, _++_, map}
+use lib.ListN.{getD, set, take, replicate}
 use Rattle.meaning.specs.declared.Drive.{Drive}
 use Rattle.meaning.specs.declared.Record.{Record}
 use Rattle.meaning.specs.declared.Walked.{Walked}
 use Rattle.meaning.specs.declared.Ran.{Ran}
 use Rattle.meaning.specs.Store.{memory}
-use Rattle.meaning.specs.State.{State}
+use Rattle.meaning.specs.Each.{upTo}
+use Rattle.meaning.specs.State.{State, stateOf}
 use Rattle.meaning.specs.Walk.{walkReply, walkLeaves}
 use Rattle.meaning.specs.Run.{byPicks, ranTo, runReply}
 use Rattle.meaning.specs.Deck.{benchDrive}
-use Rattle.meaning.specs.Bench.{benchState}
-use Rattle.meaning.specs.Starred.{exampleDeck}
+use Rattle.meaning.specs.Bench.{noRecords, benchState}
+use Rattle.meaning.specs.Starred.{put, exampleDeck}
+use Rattle.meaning.specs.Scatter.{element, command}
+use Rattle.promises.specs.OneRange.{SameButSgm}
 
 abbrev drive : Drive
 drive = benchDrive exampleDeck
@@ -49,3 +53,53 @@ pub record Speaks : Type 0 where
   -- no board that does nothing: every byte of sector 10 is 10, and comes to 400H
   pub before : getD (start .store memory) 0x400 0 ≡ 0
   pub moved : getD (after (0 ∷ []) .store memory) 0x400 0 ≡ 10
+
+-- ---- a link list
+
+-- a drive of one sector, of which byte j is the rest of j by 251
+abbrev oneSector : Drive
+oneSector = record { cylinder = 0; head = 0; sector = 0; «last_sector» = 0; protected = false }
+
+abbrev sectorByte : ℕ → ℕ
+sectorByte j = j % 251
+
+-- A Read Data of it by a list of three ranges: of 200 bytes at 40H, of 200 at 120H and of 112 at 1A0H. The sector straddles all three; the
+-- last two overlap, from 1A0H to 1E7H; and the list itself, at 50H, lies in the first.
+abbrev listed : State
+listed =
+    stateOf
+    (put (replicate 0x220 0) (command 0 0x12 0x18 0x50 0 ++ element 0x50 200 0x40 ++ element 0x58 200 0x120 ++ element 0x60 112 0x1A0))
+    (map sectorByte (upTo 512))
+    noRecords
+
+-- memory after its one step
+abbrev pub stepTaken : List ℕ
+stepTaken =
+    let s : State = record { table = walkLeaves oneSector 0 listed; store = listed .store } in
+    ranTo oneSector 1 (byPicks oneSector 1 (0 ∷ [])) s .state .store memory
+
+abbrev pub bytesAt : List ℕ → List ℕ
+bytesAt xs = map (λ x. getD stepTaken x 0) xs
+
+pub record SpeaksOfLists : Type 0 where
+  pub accepted : walkReply oneSector 0 listed .commands ≡ 1
+  -- bytes 0, 16, .. of the sector come to 40H, 50H, ..: what begins and ends a range, the list, and what both of the last two ranges hold,
+  -- where the later one of the list stays
+  pub moved :
+      bytesAt (0x40 ∷ 0x50 ∷ 0x107 ∷ 0x120 ∷ 0x19F ∷ 0x1A0 ∷ 0x1E7 ∷ 0x1E8 ∷ 0x20F ∷ [])
+      ≡ map sectorByte (0 ∷ 16 ∷ 199 ∷ 200 ∷ 327 ∷ 400 ∷ 471 ∷ 472 ∷ 511 ∷ [])
+  -- the bytes between the ranges and past the last stay, and bytes 0 and 1 of the IOPB say that it is done
+  pub stays : bytesAt (0x3F ∷ 0x108 ∷ 0x11F ∷ 0x210 ∷ []) ≡ 0 ∷ 0 ∷ 0 ∷ 0 ∷ []
+  pub closed : bytesAt (0 ∷ 1 ∷ []) ≡ 0x52 ∷ 0x00 ∷ []
+
+-- ---- a list of one range, and none
+
+-- a Read Data of the sector by a list of one range, at 40H, and the same without SGM at that address: bytes 0, 6, 12H and 13H are others
+abbrev pub withList : List ℕ
+withList = put (replicate 0x240 0) (command 0 0x12 0x08 0x20 0 ++ element 0x20 512 0x40)
+
+abbrev pub withoutList : List ℕ → List ℕ
+withoutList m = set (set (set (set m 0 0x02) 6 0x00) 0x12 0x00) 0x13 0x40
+
+abbrev pub SpeaksOfOneRange : Type 0
+SpeaksOfOneRange = SameButSgm withList (withoutList withList) oneSector 0

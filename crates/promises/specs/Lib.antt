@@ -8,6 +8,7 @@ pub mod Looks
 pub mod Numbering
 pub mod Views
 pub mod Codes
+pub mod RangesKept
 pub mod Refused
 pub mod OneReply
 -- demand 2: what one step moves, and what many do

@@ -1,12 +1,11 @@
--- What a pick and a run change, told of the caller's whole table: one law for the pick and one for each run. The table by value and the
--- lent one are two cases of it.
+-- What a run changes, told of the caller's whole table: one law for both runs. The table by value and the lent one are two cases of it.
 use mathlib.Core.Path.{_≡_, refl, sym, ap, _∙_, subst}
 use Prim.Native.Nat.{ℕ, _≤_, _<_}
 use native.Mathlib.Omega.{arith}
 use mathlib.Core.Bool.{Bool, true, false, cond}
 use mathlib.Core.List.{List, _++_}
-use lib.ListN.{length, getD, set, take, drop, take-append-drop}
-use lib.Seq.{take-all, getD-take}
+use lib.ListN.{length, take, drop, take-append-drop}
+use lib.Seq.{take-all}
 use lib.Dec.{eqb}
 use borrow.Author.Tests.{lt-ltb, eq-eqb, eqb-true}
 use Rattle.meaning.specs.declared.Drive.{Drive}
@@ -14,20 +13,16 @@ use Rattle.meaning.specs.declared.Record.{Record}
 use Rattle.meaning.specs.Store.{Store}
 use Rattle.meaning.specs.State.{State, mostCommands}
 use Rattle.meaning.specs.Sizes.{storeWrong, sizesWrong}
-use Rattle.meaning.specs.Command.{noRecord}
-use Rattle.meaning.specs.Step.{step, stepped}
-use Rattle.meaning.specs.Pick.{pickNumber, stepAt, picked, PickGives}
 use Rattle.meaning.specs.Run.{Tally, atStart, byPicks, asWritten, runNumber, ranTo, runReply, RunGives}
 use Rattle.meaning.proofs.Rows.{pass, stop, or-later}
 use Rattle.meaning.proofs.Means.{Means, holds, fails, means-lt}
-use Rattle.meaning.proofs.Numbers.{run-passed, pick-passed, place-free, most-32}
-use Rattle.board.specs.declared.pick.PickedRecord.{PickedRecord}
+use Rattle.meaning.proofs.Numbers.{run-passed, most-32}
 use Rattle.board.specs.declared.run.RanTaken.{RanTaken}
-use Rattle.board.specs.Changes.{tableWith, takenOf, handed, refusedRun, pickChanges, PickChanges, runTakes, RunTakes}
-use Rattle.board.proofs.Picking.{sizes-first, sizes-handed, handed-whole}
+use Rattle.board.specs.Changes.{tableWith, takenOf, handed, refusedRun, runTakes, RunTakes}
+use Rattle.board.proofs.Picking.{sizes-handed, handed-whole}
 use Rattle.board.proofs.Taken.{own-table, length-taken, with-append}
 use Rattle.board.proofs.Runs.{reply-refused, reply-accepted}
-use Rattle.tables.proofs.Longer.{longer, behind, run-longer, pick-longer, by-picks-longer, as-written-longer, finished-longer}
+use Rattle.tables.proofs.Longer.{longer, behind, run-longer, by-picks-longer, as-written-longer, finished-longer}
 use Rattle.tables.proofs.Kept.{forgotten, by-picks-kept, as-written-kept, length-kept, taken-says}
 
 -- all is the caller's table, of so many records; where there are 32 of them at least, t are its first 32
@@ -63,16 +58,6 @@ module _ (d : Drive) (n many : ℕ) (s : State) (all : List Record) (full : leng
 
   -- ---- the numbers are the same
 
-  pub same-number : (p : ℕ) → pickNumber d n p whole ≡ pickNumber d n p (handed many s)
-  same-number p = go (means-lt many mostCommands)
-    where
-      go : {x : Bool} → Means (many < mostCommands) x → pickNumber d n p whole ≡ pickNumber d n p (handed many s)
-      go (holds h) = sizes-first d n p whole (short-whole h) ∙ sym (sizes-first d n p (handed many s) (short-handed h))
-      go (fails h) =
-          ap (pickNumber d n p) (whole-is (omega arith))
-          ∙ pick-longer d n s rest (omega arith) p
-          ∙ ap (pickNumber d n p) (sym (handed-is (omega arith)))
-
   sizes-run : (x : State) → sizesWrong d x ≡ true → runNumber d n x ≡ 1
   unfolding runNumber
   sizes-run x e = stop _ _ _ e
@@ -94,48 +79,6 @@ module _ (d : Drive) (n many : ℕ) (s : State) (all : List Record) (full : leng
       go : {x : Bool} → Means (many < mostCommands) x → mostCommands ≤ many
       go (holds h) = absurd (omega (arith, one (short-handed h)))
       go (fails h) = omega arith
-
-  -- ---- a pick
-
-  module _ (p : ℕ) where
-    abbrev number : ℕ
-    number = pickNumber d n p (handed many s)
-
-    abbrev here : Record
-    here = getD (handed many s .table) p noRecord
-
-    same-here : number ≡ 0 → getD all p noRecord ≡ here
-    same-here e =
-        let l = enough number (sizes-first d n p (handed many s)) e in
-        let q = pick-passed d n (handed many s) p e in
-        let few = most-32 d n (handed many s) (q .0) in
-        let used = place-free (handed many s .table) n p (q .1) .inUse in
-        sym (getD-take mostCommands all p noRecord (omega arith))
-        ∙ ap (λ (t : List Record). getD t p noRecord) (b .front l ∙ ap (λ (x : State). x .table) (sym (handed-is l)))
-
-    pub pick-face : (r : PickedRecord) (v : Store) → PickChanges d n p many s r v
-        → PickGives d n p whole (r .number) (record { table = cond (eqb (r .number) 0) (set all p (r .after)) all; store = v })
-    unfolding PickGives PickChanges pickChanges picked stepAt
-    pick-face r v g = (ap (λ (x : PickedRecord). x .number) (g .0) ∙ sym (same-number p), go (eqb number 0) refl)
-      where
-        number-of : r .number ≡ number
-        number-of = ap (λ (x : PickedRecord). x .number) (g .0)
-
-        go : (x : Bool) → eqb number 0 ≡ x → record { table = cond (eqb (r .number) 0) (set all p (r .after)) all; store = v } ≡ picked d n p whole
-        go true e =
-            let z = eqb-true number 0 e in
-            let same = same-here z in
-            let step-of : r .after ≡ stepped here = ap (λ (x : PickedRecord). x .after) (g .0) ∙ stop _ _ _ e in
-            let left : v ≡ step d here (s .store) = g .1 ∙ ap (λ (x : State). x .store) (stop _ _ _ e) in
-            let table-is = stop _ _ _ (ap (λ (k : ℕ). eqb k 0) number-of ∙ e) ∙ ap (set all p) (step-of ∙ ap stepped (sym same)) in
-            let store-is = left ∙ ap (λ (x : Record). step d x (s .store)) (sym same) in
-            let after : picked d n p whole ≡ stepAt d p whole = stop _ _ _ (ap (λ (k : ℕ). eqb k 0) (same-number p) ∙ e) in
-            (λ j. record { table = table-is j; store = store-is j }) ∙ sym after
-        go false e =
-            let table-is = pass _ _ _ (ap (λ (k : ℕ). eqb k 0) number-of ∙ e) in
-            let store-is : v ≡ s .store = g .1 ∙ ap (λ (x : State). x .store) (pass _ _ _ e) in
-            let after : picked d n p whole ≡ whole = pass _ _ _ (ap (λ (k : ℕ). eqb k 0) (same-number p) ∙ e) in
-            (λ j. record { table = table-is j; store = store-is j }) ∙ sym after
 
   -- ---- a run that changes nothing but steps taken, and nothing of records behind
 
@@ -246,20 +189,3 @@ module _ (d : Drive) (n : ℕ) (s : State) (full : length (s .table) ≡ mostCom
   pub written-by-value : (budget : ℕ) (r : RanTaken) (v : Store) (t : List Record) → RunTakes d n (asWritten d n budget) mostCommands s r v → t ≡ tableWith (r .taken) (s .table)
       → RunGives d n (asWritten d n budget) s (r .ran) (record { table = t; store = v })
   written-by-value budget r v t g e = by-value (asWritten d n budget) r v t g e (written-face d n mostCommands s (s .table) full (begins-itself (s .table) full) budget r v g)
-
-  -- a pick lays its record on 0 only
-  pub pick-by-value : (p : ℕ) (r : PickedRecord) (v : Store) (t : List Record) → PickChanges d n p mostCommands s r v → t ≡ cond (eqb (r .number) 0) (set (s .table) p (r .after)) (s .table)
-      → PickGives d n p s (r .number) (record { table = t; store = v })
-  pick-by-value p r v t g e =
-      subst (λ (u : List Record). PickGives d n p s (r .number) (record { table = u; store = v })) (sym e)
-      (pick-face d n mostCommands s (s .table) full (begins-itself (s .table) full) p r v g)
-
-  -- and then the place is one of the 32
-  pub laid-at : (p : ℕ) (r : PickedRecord) (v : Store) → PickChanges d n p mostCommands s r v → r .number ≡ 0 → p < mostCommands
-  unfolding PickChanges pickChanges
-  laid-at p r v g e =
-      let z = sym (ap (λ (x : PickedRecord). x .number) (g .0)) ∙ e in
-      let q = pick-passed d n (handed mostCommands s) p z in
-      let few = most-32 d n (handed mostCommands s) (q .0) in
-      let used = place-free (handed mostCommands s .table) n p (q .1) .inUse in
-      omega arith

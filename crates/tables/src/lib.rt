@@ -1,17 +1,22 @@
 // The forms by value: a pick and both runs on a table that goes in and comes back by value. What they change is worked out in `board`, as it
 // is for a lent table, and laid here into the table.
 use board::pick;
+use board::pick::Sight;
 use board::run;
 use board::table;
+use command::sound;
+use command::touch;
 use meaning::Drive;
 use meaning::PickedTable;
 use meaning::RanTable;
 use meaning::Record;
 ghost use mathlib.Core.Path.{_≡_};
-ghost use Rattle.meaning.specs.State.{stateOf};
+ghost use Prim.Native.Nat.{_≤_, _<_};
+ghost use Rattle.meaning.specs.State.{stateOf, mostCommands};
 ghost use Rattle.meaning.specs.Pick.{PickGives};
 ghost use Rattle.meaning.specs.Run.{RunGives, byPicks, asWritten};
 ghost use Rattle.board.specs.Changes.{tableWith};
+ghost use Rattle.board.specs.Sight.{sightOf};
 
 // How many records a table by value has: the most commands of a chain.
 const RECORDS: usize = chain::walk::MOST_COMMANDS;
@@ -29,6 +34,26 @@ fn table_with(table: [Record; 32], taken: [u32; 32]) -> [Record; 32]
     after
 }
 
+// What a pick sees of a table by value, of which n records are in use.
+fn look_over(table: [Record; 32], memory: u64, d: Drive, n: usize, place: usize) -> Sight
+    requires { ⌜ (n ≤ mostCommands) × (place < mostCommands) ⌝ }
+    ensures { λ s. ⌜ s ≡ sightOf memory d n place table ⌝ }
+{
+    let wanted = touch::footprint_of(table[place]);
+    let mut bad = false;
+    let mut blocked = false;
+    let mut k = 0;
+    while k < n {
+        let l = sound::look(memory, d, table[k], wanted, k < place);
+        bad = bad | l.bad;
+        if l.near {
+            blocked = blocked | touch::ranges_conflict(table[k], table[place]);
+        }
+        k += 1;
+    }
+    Sight { bad, blocked }
+}
+
 // A pick on a table by value: on 0 one step at its place; on any other number nothing is changed.
 pub fn pick(
     memory: &mut [u8],
@@ -40,11 +65,13 @@ pub fn pick(
 ) -> PickedTable
     ensures { λ r. ⌜ PickGives d commands place (stateOf (now (memory .entry)) (now (image .entry)) table) (r .number) (stateOf (now (memory .exit)) (now (image .exit)) (r .table)) ⌝ }
 {
-    let picked = pick::pick_record(memory, image, d, table, RECORDS, commands, place);
-    let stepped = picked.after;
+    let size = memory.len() as u64;
+    let at = pick::place_seen(place);
+    let seen = look_over(table, size, d, run::in_table(commands), at);
+    let picked = pick::pick_seen(memory, image, d, table[at], seen, commands, place);
     let mut after = table;
     if picked.number == 0 {
-        after[place] = stepped;
+        after[at] = table::with_taken(table[at], picked.taken);
     }
     PickedTable {
         number: picked.number,

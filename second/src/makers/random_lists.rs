@@ -9,7 +9,7 @@ use crate::makers::ALL_32_BITS;
 use crate::range::Range;
 
 /// The longest that one element can be.
-const LONGEST: u64 = 0xFFFF;
+pub const LONGEST: u64 = 0xFFFF;
 
 /// The ranges of a list for so many bytes, mostly all in memory.
 pub fn random_ranges(rng: &mut Rng, lay: &Lay, bytes: u64, earlier: &[Transfer]) -> Vec<Range> {

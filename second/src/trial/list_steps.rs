@@ -4,10 +4,10 @@
 use crate::board::{Board, SECTOR_BYTES};
 use crate::conflict::{conflict, data_bytes, meet, status_bytes, touched};
 use crate::link_list::read_list;
-use crate::range::{bytes_end_to_end, sum_of_lengths, Range};
+use crate::range::{bytes_end_to_end, Range};
 use crate::record::Record;
-use crate::trial::list_walks::own_bytes;
-use std::collections::BTreeMap;
+use crate::trial::list_walks::{own_bytes, right_in_bits, SUM_BITS};
+use std::collections::{BTreeMap, BTreeSet};
 
 const IN_ONE: &str = "step in one range of several";
 const OVER_TWO: &str = "step over two ranges";
@@ -26,13 +26,20 @@ const LAST: &str = "conflict by the last range, alone";
 const PAST_HULL: &str = "step past an unfinished command, hulls of lists meet";
 const PAST_EMPTY: &str = "step past an unfinished command, a range of length 0 in its data";
 const PAST_LIST: &str = "step past an unfinished command, data over a list";
-const BITS_NINE: &str = "refused 9: lengths right in 16 bits";
+const BITS_NINE: [&str; SUM_BITS.len()] = [
+    "refused 9: lengths right in 16 bits",
+    "refused 9: lengths right in 17 bits",
+    "refused 9: lengths right in 18 bits",
+    "refused 9: lengths right in 19 bits",
+    "refused 9: lengths right in 20 bits",
+];
 
 /// The names of all rows of this file, in the order in which they are printed.
 pub fn names() -> Vec<&'static str> {
     let mut names = vec![IN_ONE, OVER_TWO, OVER_THREE, OVER_MORE, READ_TWICE, ORDER, WRITE_TWICE];
     names.extend([CHANGED, ODD_ADDRESS, NO_SGM, NO_LIST]);
-    names.extend([NOT_FIRST, MIDDLE, LAST, PAST_HULL, PAST_EMPTY, PAST_LIST, BITS_NINE]);
+    names.extend([NOT_FIRST, MIDDLE, LAST, PAST_HULL, PAST_EMPTY, PAST_LIST]);
+    names.extend(BITS_NINE);
     names
 }
 
@@ -204,16 +211,10 @@ fn writes_over_list(one: &Record, other: &Record) -> bool {
     meet(&status_bytes(one), &list) || one.reads_sectors() && meet(&data_bytes(one), &list)
 }
 
-/// The row of a table that got 9 where some list's lengths add up to the right
-/// number in 16 bits only.
+/// The rows of a table that got 9 where some list's lengths would be right in
+/// fewer bits.
 pub fn refused_nine_rows(in_use: &[Record]) -> Vec<&'static str> {
-    let wrapped = |record: &Record| {
-        let (sum, wanted) = (sum_of_lengths(&record.data_ranges()), record.data_bytes());
-        record.is_transfer() && sum != wanted && sum % 65_536 == wanted % 65_536
-    };
-    if in_use.iter().any(wrapped) {
-        vec![BITS_NINE]
-    } else {
-        Vec::new()
-    }
+    let transfers = in_use.iter().filter(|record| record.is_transfer());
+    let rows: BTreeSet<_> = transfers.flat_map(|record| right_in_bits(record, BITS_NINE)).collect();
+    rows.into_iter().collect()
 }

@@ -9,6 +9,10 @@ use crate::range::{sum_of_lengths, Range};
 use crate::record::Record;
 use std::collections::BTreeSet;
 
+/// The bits that a sum of lengths might be kept in, though it can have one more
+/// than these: 32 ranges of 65,535 bytes have 2,097,120.
+pub const SUM_BITS: [u32; 5] = [16, 17, 18, 19, 20];
+
 const PLAIN_4B: &str = "code 4B without a list";
 const LIST_4B: &str = "code 4B, list not all in memory";
 const RANGE_4B: &str = "code 4B, a range outside memory";
@@ -21,7 +25,13 @@ const SGM_1E: &str = "code 1E with SGM";
 const SGM_90: &str = "code 90 with SGM";
 const LESS_1C: &str = "code 1C, lengths too small";
 const MORE_1C: &str = "code 1C, lengths too large";
-const BITS_1C: &str = "code 1C, lengths right in 16 bits";
+const BITS_1C: [&str; SUM_BITS.len()] = [
+    "code 1C, lengths right in 16 bits",
+    "code 1C, lengths right in 17 bits",
+    "code 1C, lengths right in 18 bits",
+    "code 1C, lengths right in 19 bits",
+    "code 1C, lengths right in 20 bits",
+];
 const ODD_1C: &str = "code 1C with an odd address";
 const OUTSIDE_1F: &str = "code 1F with a range outside memory";
 const EMPTY_1F: &str = "code 1F by a range of length 0 alone";
@@ -45,7 +55,7 @@ const READ_OWN_STATUS: &str = "read by a list over its own status";
 
 /// The names of all rows of this file, in the order in which they are printed.
 pub fn names() -> Vec<&'static str> {
-    vec![
+    let mut names = vec![
         ONE,
         SOME,
         ALL,
@@ -60,7 +70,9 @@ pub fn names() -> Vec<&'static str> {
         LIST_4B,
         LESS_1C,
         MORE_1C,
-        BITS_1C,
+    ];
+    names.extend(BITS_1C);
+    names.extend([
         ODD_1C,
         OUTSIDE_1F,
         EMPTY_1F,
@@ -79,7 +91,8 @@ pub fn names() -> Vec<&'static str> {
         READ_OWN_LIST,
         WRITE_OWN_LIST,
         READ_OWN_STATUS,
-    ]
+    ]);
+    names
 }
 
 /// The rows of an accepted command.
@@ -138,13 +151,20 @@ fn odd(range: &Range) -> bool {
     range.address % 2 == 1
 }
 
+/// Of these names, one for each of the bits above, those of the bits in which
+/// lengths that do not add up would be right.
+pub fn right_in_bits(record: &Record, names: [&'static str; SUM_BITS.len()]) -> Vec<&'static str> {
+    let (sum, wanted) = (sum_of_lengths(&record.data_ranges()), record.data_bytes());
+    let right = |bits: u32| sum != wanted && sum % (1 << bits) == wanted % (1 << bits);
+    let named = SUM_BITS.into_iter().zip(names);
+    named.filter(|(bits, _)| right(*bits)).map(|(_, name)| name).collect()
+}
+
 fn sum_rows(record: &Record) -> Vec<&'static str> {
     let ranges = record.data_ranges();
     let (sum, wanted) = (sum_of_lengths(&ranges), record.data_bytes());
     let mut rows = vec![if sum < wanted { LESS_1C } else { MORE_1C }];
-    if sum % 65_536 == wanted % 65_536 {
-        rows.push(BITS_1C);
-    }
+    rows.extend(right_in_bits(record, BITS_1C));
     if ranges.iter().any(odd) {
         rows.push(ODD_1C);
     }

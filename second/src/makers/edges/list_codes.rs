@@ -3,10 +3,10 @@
 
 use crate::makers::block::Block;
 use crate::makers::edges::lists::{
-    both_ways, case_with_memory, evenly, list_case, list_of, listed, one_way, walk_and_show, LIST,
-    MEMORY,
+    both_ways, case_with_memory, evenly, large_case, list_case, list_of, listed, off_by_lost_bits,
+    one_way, walk_and_show, LIST, MEMORY,
 };
-use crate::makers::edges::{image, memory, READ, WRITE};
+use crate::makers::edges::{READ, WRITE};
 use crate::makers::script::Script;
 use crate::makers::ALL_32_BITS;
 use crate::range::Range;
@@ -105,25 +105,21 @@ fn lengths(script: &mut Script) {
     }
 }
 
-/// Sums that 16 bits would lose, where all ranges are in memory, and counts
-/// whose bytes 16 bits would lose.
+/// Sums that 16 bits or some more would lose, where all ranges are in memory,
+/// and counts whose bytes they would lose.
 fn long_lengths(script: &mut Script) {
     let half = 32_768;
-    for (count, list) in [
-        (1, list_of(&[(0, half), (0x8000, half), (0xE00, 512)])),
-        (2, list_of(&[(0, 65_535), (0x600, 1_025)])),
+    let mut commands = vec![
         (128, list_of(&[(0, half), (0x8000, half)])),
         (128, list_of(&[(0x600, 0), (0x800, 0)])),
-        (129, list_of(&[(0x600, 512)])),
-        (129, list_of(&[(0, half), (0x8000, half), (0x600, 512)])),
         (256, list_of(&[(0, half), (0x8000, half)])),
         (256, evenly(4, 0, 0x2AAA, half)),
         (255, list_of(&[(0, 65_535), (0, 65_025)])),
         (255, list_of(&[(0, 65_535), (0, 65_023)])),
-    ] {
-        script.case();
-        script.drive(3, 3, 15, false);
-        script.say_all([memory(65_536), image(256)]);
+    ];
+    commands.extend(off_by_lost_bits(1));
+    for (count, list) in commands {
+        large_case(script, count);
         script.link_list(LIST, &list);
         script.block(0, Block::new(READ).count(count).list(LIST, list.len() as u64));
         script.say_all([Line::Walk(0), Line::Steps, Line::Pick(0)]);

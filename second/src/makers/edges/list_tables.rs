@@ -2,9 +2,10 @@
 //! them, and what nobody looks at; and what a walk leaves in the table.
 
 use crate::makers::edges::lists::{
-    case_with_memory, evenly, list_case, list_of, listed, LIST, MEMORY,
+    case_with_memory, evenly, large_case, list_case, list_of, listed, off_by_lost_bits, LIST,
+    MEMORY, SECTOR,
 };
-use crate::makers::edges::{image, memory, READ, WRITE};
+use crate::makers::edges::{memory, READ, WRITE};
 use crate::makers::script::Script;
 use crate::makers::ALL_32_BITS;
 use crate::range::Range;
@@ -93,17 +94,12 @@ fn lengths(script: &mut Script) {
     }
 }
 
-/// Sums that are right again in 16 bits, with all ranges in memory.
+/// Sums that are right again in 16 bits or some more, beside right ones, with
+/// all ranges in memory.
 fn long_lengths(script: &mut Script) {
-    for list in [
-        list_of(&[(0, 32_768), (0x8000, 32_768), (0x600, 1_024)]),
-        list_of(&[(0, 65_535), (0x600, 1_025)]),
-        list_of(&[(0x600, 1_024)]),
-    ] {
-        script.case();
-        script.drive(1, 1, 7, false);
-        script.say_all([memory(65_536), image(32)]);
-        script.record(0, record_with(READ, &list));
+    for (count, list) in off_by_lost_bits(2) {
+        large_case(script, SECTOR + count);
+        script.record(0, Record { count: count as u16, ..record_with(READ, &list) });
         calls(script);
     }
 }

@@ -1,11 +1,14 @@
 //! What the cases with link lists have in common: a ground where every piece
 //! of data can be told from every other, lists, and the calls that show all.
 
+use crate::board::SECTOR_BYTES;
 use crate::makers::block::Block;
 use crate::makers::edges::{image, memory, READ, WRITE};
+use crate::makers::random_lists::LONGEST;
 use crate::makers::script::Script;
 use crate::range::Range;
 use crate::trial::line::Line;
+use crate::trial::list_walks::SUM_BITS;
 
 /// Where the lists of these cases begin, unless a case says otherwise.
 pub const LIST: u64 = 0x400;
@@ -24,6 +27,26 @@ pub fn list_of(ranges: &[(u32, u32)]) -> Vec<Range> {
 /// So many ranges of one length, the first at this address, so far apart.
 pub fn evenly(number: u32, first: u32, apart: u32, length: u32) -> Vec<Range> {
     (0..number).map(|k| Range { address: first + apart * k, length }).collect()
+}
+
+/// As few ranges as have so many bytes, all of them in the largest memory.
+fn ranges_of(bytes: u64) -> Vec<Range> {
+    let mut list = evenly((bytes / LONGEST) as u32, 0, 0, LONGEST as u32);
+    list.push(Range { address: 0x600, length: (bytes % LONGEST) as u32 });
+    list
+}
+
+/// For every number of bits that a sum might be kept in: lengths that are too
+/// many for this count by just what these bits lose, a count for which the same
+/// lengths are right, and with it lengths that are too few by as much.
+pub fn off_by_lost_bits(count: u64) -> Vec<(u64, Vec<Range>)> {
+    let mut commands = Vec::new();
+    for bits in SUM_BITS {
+        let larger = count + (1 << bits) / SECTOR_BYTES;
+        let (few, many) = (ranges_of(SECTOR_BYTES * count), ranges_of(SECTOR_BYTES * larger));
+        commands.extend([(count, many.clone()), (larger, many), (larger, few)]);
+    }
+    commands
 }
 
 /// A mark that is not like those near it.
@@ -54,6 +77,15 @@ pub fn case_with_memory(script: &mut Script, length: u64, protected: bool) {
     script.say_all([memory(length), image(32)]);
     mark_memory(script);
     mark_sectors(script);
+}
+
+/// A new case with the largest memory, on a drive that has room for so many
+/// sectors.
+pub fn large_case(script: &mut Script, sectors: u64) {
+    let max_cylinder = (sectors - 1) / 64;
+    script.case();
+    script.drive(max_cylinder as u16, 3, 15, false);
+    script.say_all([memory(65_536), image(64 * (max_cylinder + 1))]);
 }
 
 /// A new case with the usual memory.

@@ -1,7 +1,7 @@
 -- `board::run::picks_taken` meets its contract: its first loop keeps `Opened` and its second `PicksLeft`; the search in it decides whether
 -- the pick waits.
 use Rattle.meaning.proofs.Rows.{not-true}
-use mathlib.Core.Path.{_≡_, refl, sym, ap, _∙_, subst}
+use mathlib.Core.Path.{_≡_, refl, sym, ap, _∙_, subst, ap₂}
 use Prim.Native.Nat.{ℕ, _+_, _≤_, _<_, _-_}
 use native.Mathlib.Omega.{arith}
 use mathlib.Core.Bool.{Bool, true, false}
@@ -16,14 +16,17 @@ use Rattle.command.specs.Footprints.{noFootprint, footprintOf}
 use Rattle.board.specs.Changes.{tableWith, handed}
 use Rattle.board.proofs.Opening.{Opened, opened-begin, opened-more, all-taken, all-left, number-is, whole-handed, run-goes}
 use Rattle.board.proofs.Runs.{refused-takes, accepted-takes}
-use lib.Dec.{eqb}
+use lib.Dec.{eqb, ltb}
 use Rattle.meaning.specs.declared.Ran.{Ran}
 use Rattle.meaning.specs.Each.{someOf}
 use Rattle.meaning.specs.Command.{finished}
 use Rattle.meaning.specs.Pick.{waits, placeNumber}
 use Rattle.board.specs.Changes.{withTaken, RunTakes}
 use Rattle.board.proofs.Moving.{steps-small}
-use Rattle.board.proofs.Searching.{none-more, some-here, blocking, searched-to}
+use Rattle.command.specs.declared.sound.Judged.{Judged}
+use Rattle.board.specs.Opening.{seenWith}
+use Rattle.board.specs.Sight.{blocking}
+use Rattle.board.proofs.Searching.{none-more, some-here, searched-to}
 use Rattle.board.proofs.Picking.{no-place, is-finished, has-to-wait, may-go}
 use Rattle.board.proofs.Taken.{length-with}
 use Rattle.board.proofs.Footprints.{Footprinted, footprinted-none, footprinted-more, done-free, apart-free, by-ranges}
@@ -148,17 +151,20 @@ mul-taken c = omega (arith, (c .before .before .loop .inv .0 .long))
 array-write-taken : tie.Need-array-write-taken Inv-loop μ-loop Inv-loop2 μ-loop2 Inv-picks μ-picks
 array-write-taken c = omega (arith, (c .before .before .loop .inv .0 .long))
 
-footprint-of-requires : tie.Need-footprint-of-requires Inv-loop μ-loop Inv-loop2 μ-loop2 Inv-picks μ-picks
-footprint-of-requires c κs = search needs
+judge-requires : tie.Need-judge-requires Inv-loop μ-loop Inv-loop2 μ-loop2 Inv-picks μ-picks
+judge-requires c κs = search needs
 
 mul-footprints : tie.Need-mul-footprints Inv-loop μ-loop Inv-loop2 μ-loop2 Inv-picks μ-picks
-mul-footprints c = omega (arith, (c .before .before .before .loop .inv .1 .long))
+mul-footprints c = omega (arith, (c .before .before .before .before .loop .inv .1 .long))
 
 array-set-from-footprints : tie.Need-array-set-from-footprints Inv-loop μ-loop Inv-loop2 μ-loop2 Inv-picks μ-picks
-array-set-from-footprints c = omega (arith, (c .before .before .before .loop .inv .1 .long))
+array-set-from-footprints c = omega (arith, (c .before .before .before .before .loop .inv .1 .long))
+
+remaining-requires : tie.Need-remaining-requires Inv-loop μ-loop Inv-loop2 μ-loop2 Inv-picks μ-picks
+remaining-requires c κs = search needs
 
 with-record-requires : tie.Need-with-record-requires Inv-loop μ-loop Inv-loop2 μ-loop2 Inv-picks μ-picks
-with-record-requires c κs = omega (arith, (c .before .before .before .before .loop .inv .0 .small))
+with-record-requires c κs = omega (arith, (c .before .before .before .before .before .loop .inv .0 .small))
 
 add-k : tie.Need-add-k Inv-loop μ-loop Inv-loop2 μ-loop2 Inv-picks μ-picks
 add-k c = omega arith
@@ -167,10 +173,14 @@ loop-less : tie.Need-loop-less Inv-loop μ-loop Inv-loop2 μ-loop2 Inv-picks μ-
 loop-less c = omega arith
 
 loop-again : tie.Need-loop-again Inv-loop μ-loop Inv-loop2 μ-loop2 Inv-picks μ-picks
-loop-again c = let a = c .before .before .before .before .before .before .before .before .before .before .args in
-    let l = c .before .before .before .before .before .loop in
-    let h = c .before .before .before .before .loop-test .taken in
-    (opened-more (a .d) (a .commands) (a .memory .now) (a .image .now) (a .t4) (l .taken) (l .seen) (l .k) (l .inv .0) (c .with-record .result) h (c .with-record .ensures .0) (c .with-record .ensures .1), footprinted-more (a .t4) (l .footprints) (l .k) (c .before .before .footprint-of .result) (l .inv .1) h (c .before .before .footprint-of .ensures))
+loop-again c = let a = c .before .before .before .before .before .before .before .before .before .before .before .args in
+    let l = c .before .before .before .before .before .before .loop in
+    let h = c .before .before .before .before .before .loop-test .taken in
+    let j = c .before .before .before .judge .ensures in (
+      opened-more (a .d) (a .commands) (a .memory .now) (a .image .now) (a .t4) (l .taken) (l .seen) (l .k) (l .inv .0) (c .with-record .result) h
+          (c .with-record .ensures .0 ∙ ap₂ (λ (x : Judged) (n : ℕ). seenWith (ltb (l .k) (a .commands)) (x .bad) n (l .seen)) j (c .before .remaining .ensures)) (c .with-record .ensures .1),
+      footprinted-more (a .t4) (l .footprints) (l .k) _ (l .inv .1) h (ap (λ (x : Judged). x .footprint) j),
+    )
 
 first-number-requires : tie.Need-first-number-requires Inv-loop μ-loop Inv-loop2 μ-loop2 Inv-picks μ-picks
 first-number-requires c κs = search needs
@@ -391,25 +401,25 @@ mul-searched-2 c = omega (arith, in-table (c .before .before .before .before .be
 array-write-searched-2 : tie.Need-array-write-searched-2 Inv-loop μ-loop Inv-loop2 μ-loop2 Inv-picks μ-picks
 array-write-searched-2 c = let e = ap length (c .before .loop2 .inv .1) in omega (arith, in-table (c .before .before .before .before .before .before .before), (c .before .before .before .before .before .before .before .before .before .before .picks .inv .search .long))
 
-remaining-requires : tie.Need-remaining-requires Inv-loop μ-loop Inv-loop2 μ-loop2 Inv-picks μ-picks
-remaining-requires c κs = search needs
+remaining-requires-2 : tie.Need-remaining-requires-2 Inv-loop μ-loop Inv-loop2 μ-loop2 Inv-picks μ-picks
+remaining-requires-2 c κs = search needs
 
 picks-alike-requires : tie.Need-picks-alike-requires Inv-loop μ-loop Inv-loop2 μ-loop2 Inv-picks μ-picks
 picks-alike-requires c κs = let a = c .before .before .before .before .before .before .before .before .before .before .before .before .before .before .before .before .before .before .before .before .before .before .args in
     let l = c .before .before .before .before .before .before .before .before .before .before .before .picks in
-    ((c .before .before .before .before .before .before .before .before .before .before .picks-test .taken), rw (c .remaining .ensures) (some-left (a .d) (a .commands) (a .picks .now) (a .memory .now) (a .image .now) (a .t4) (l .memory) (l .image) (l .taken) (l .searched) (l .steps) (l .passed) (l .next) (l .inv) (c .before .before .before .before .before .before .with-taken .result) (here (c .before .before .before .before .before .before)) (in-table (c .before .before .before .before .before .before .before .before)) (free (c .before))))
+    ((c .before .before .before .before .before .before .before .before .before .before .picks-test .taken), rw (c .remaining2 .ensures) (some-left (a .d) (a .commands) (a .picks .now) (a .memory .now) (a .image .now) (a .t4) (l .memory) (l .image) (l .taken) (l .searched) (l .steps) (l .passed) (l .next) (l .inv) (c .before .before .before .before .before .before .with-taken .result) (here (c .before .before .before .before .before .before)) (in-table (c .before .before .before .before .before .before .before .before)) (free (c .before))))
 
 take-steps-requires : tie.Need-take-steps-requires Inv-loop μ-loop Inv-loop2 μ-loop2 Inv-picks μ-picks
 take-steps-requires c κs = let a = c .before .before .before .before .before .before .before .before .before .before .before .before .before .before .before .before .before .before .before .before .before .before .before .before .before .args in
     let l = c .before .before .before .before .before .before .before .before .before .before .before .before .before .before .picks in
-    let few = rw (c .before .before .before .remaining .ensures) at (c .before .before .picks-alike .ensures .few) in
+    let few = rw (c .before .before .before .remaining2 .ensures) at (c .before .before .picks-alike .ensures .few) in
     (few, pick-ready (a .d) (a .commands) (a .picks .now) (a .memory .now) (a .image .now) (a .t4) (l .memory) (l .image) (l .taken) (l .searched) (l .steps) (l .passed) (l .next) (l .inv) (c .before .before .before .before .before .before .before .before .before .with-taken .result) (here (c .before .before .before .before .before .before .before .before .before)) (in-table (c .before .before .before .before .before .before .before .before .before .before .before)) (free (c .before .before .before .before)) (c .before .before .picks-alike .result) few)
 
 add-taken : tie.Need-add-taken Inv-loop μ-loop Inv-loop2 μ-loop2 Inv-picks μ-picks
 unfolding remaining
 add-taken c = let a = c .before .before .before .before .before .before .before .before .before .before .before .before .before .before .before .before .before .before .before .before .before .before .before .before .before .before .before .before .before .before .before .args in
     let l = c .before .before .before .before .before .before .before .before .before .before .before .before .before .before .before .before .before .before .before .before .picks in
-    let few = rw (c .before .before .before .before .before .before .before .before .before .remaining .ensures) at (c .before .before .before .before .before .before .before .before .picks-alike .ensures .few) in
+    let few = rw (c .before .before .before .before .before .before .before .before .before .remaining2 .ensures) at (c .before .before .before .before .before .before .before .before .picks-alike .ensures .few) in
     omega (arith, few, steps-small (c .before .before .before .before .before .before .before .before .before .before .before .before .before .before .before .with-taken .result) (omega arith))
 
 mul-taken-2 : tie.Need-mul-taken-2 Inv-loop μ-loop Inv-loop2 μ-loop2 Inv-picks μ-picks
@@ -442,7 +452,7 @@ picks-again-4 c = let a = c .before .before .before .before .before .before .bef
     let v = c .before .before .before .before .before .take-steps in
     let r = c .before .before .before .before .before .before .before .before .before .before .before .before .before .before .before .with-taken .result in
     let n = c .before .before .before .before .before .before .before .before .picks-alike in
-    let few = rw (c .before .before .before .before .before .before .before .before .before .remaining .ensures) at (c .before .before .before .before .before .before .before .before .picks-alike .ensures .few) in
+    let few = rw (c .before .before .before .before .before .before .before .before .before .remaining2 .ensures) at (c .before .before .before .before .before .before .before .before .picks-alike .ensures .few) in
     let to = searched-to t (l .searched) p (e .earlier) (l .inv .search) (in-table (c .before .before .before .before .before .before .before .before .before .before .before .before .before .before .before .before .before)) (e .inv .0) (clear (c .before .before .before .before .before .before .before .before .before .before .before)) in
     subst (λ (x : List ℕ). PicksLeft (a .d) (a .commands) (a .picks .now) (a .memory .now) (a .image .now) (a .t4) (v .last .0) (v .last .1 .0) (set (l .taken) p (r .taken + n .result)) (set x p (e .earlier)) (l .steps + n .result) (e .passed) (l .next + n .result)) (sym (e .inv .1))
     (subst (λ (x : ℕ). PicksLeft (a .d) (a .commands) (a .picks .now) (a .memory .now) (a .image .now) (a .t4) (v .last .0) (v .last .1 .0) (set (l .taken) p (r .taken + n .result)) (set (l .searched) p (e .earlier)) (l .steps + n .result) x (l .next + n .result)) (sym (e .inv .2))
@@ -480,9 +490,10 @@ picks-taken-spec =
     array-copy-out-r
     mul-taken
     array-write-taken
-    footprint-of-requires
+    judge-requires
     mul-footprints
     array-set-from-footprints
+    remaining-requires
     with-record-requires
     add-k
     loop-less
@@ -539,7 +550,7 @@ picks-taken-spec =
     loop2-again-3
     mul-searched-2
     array-write-searched-2
-    remaining-requires
+    remaining-requires-2
     picks-alike-requires
     take-steps-requires
     add-taken

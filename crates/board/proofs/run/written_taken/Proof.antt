@@ -1,5 +1,5 @@
 -- `board::run::written_taken` meets its contract: its first loop keeps `Opened` and its second `WrittenLeft`.
-use mathlib.Core.Path.{_≡_, refl, sym, ap, _∙_, subst}
+use mathlib.Core.Path.{_≡_, refl, sym, ap, ap₂, _∙_, subst}
 use Prim.Native.Nat.{ℕ, _≤_, _-_, min}
 use native.Mathlib.Omega.{arith}
 use lib.ListN.{getD}
@@ -8,10 +8,12 @@ use Rattle.meaning.specs.State.{stateOf, mostCommands}
 use Rattle.meaning.specs.Command.{remaining, noRecord}
 use Rattle.meaning.specs.Run.{runNumber, asWritten}
 use Rattle.board.specs.Changes.{handed}
+use Rattle.board.specs.Opening.{seenWith}
 use Rattle.board.proofs.Opening.{Opened, opened-begin, opened-more, all-taken, all-left, number-is, whole-handed, run-goes}
 use Rattle.board.proofs.Runs.{refused-takes, accepted-takes}
 use Rattle.meaning.specs.declared.Ran.{Ran}
-use lib.Dec.{leb}
+use mathlib.Core.Bool.{Bool}
+use lib.Dec.{ltb, leb}
 use Rattle.board.specs.Changes.{RunTakes}
 use Rattle.board.proofs.Moving.{steps-small}
 use Rattle.board.proofs.Written.{WrittenLeft, written-begin, in-use-few, turn-ready, next-turn, all-written, finished-by-budget}
@@ -52,7 +54,7 @@ few c = let a = c .before .before .before .before .before .before .before .befor
 
 -- how many steps the command takes
 count : (c : tie.After-fewer Inv-loop μ-loop Inv-loop2 μ-loop2) → let a = (c .before .before .before .before .before .before .before .before .before .before .before .before .before .args) in let l = (c .before .before .before .before .loop2) in (c .fewer .result) ≡ min (l .left) (remaining (getD (a .t4) (l .at) noRecord))
-count c = (c .fewer .ensures) ∙ ap (min (c .before .before .before .before .loop2 .left)) (c .before .remaining .ensures)
+count c = (c .fewer .ensures) ∙ ap (min (c .before .before .before .before .loop2 .left)) (c .before .remaining2 .ensures)
 
 loop-holds : tie.Need-loop-holds Inv-loop μ-loop Inv-loop2 μ-loop2
 loop-holds c = let a = c .before .before .args in
@@ -70,8 +72,20 @@ mul-taken c = omega (arith, (c .before .before .loop .inv .long))
 array-write-taken : tie.Need-array-write-taken Inv-loop μ-loop Inv-loop2 μ-loop2
 array-write-taken c = omega (arith, (c .before .before .loop .inv .long))
 
+mul-bad-record : tie.Need-mul-bad-record Inv-loop μ-loop Inv-loop2 μ-loop2
+mul-bad-record c = omega arith
+
+array-copy-out-bad-record : tie.Need-array-copy-out-bad-record Inv-loop μ-loop Inv-loop2 μ-loop2
+array-copy-out-bad-record c = omega arith
+
+bad-record-requires : tie.Need-bad-record-requires Inv-loop μ-loop Inv-loop2 μ-loop2
+bad-record-requires c κs = search needs
+
+remaining-requires : tie.Need-remaining-requires Inv-loop μ-loop Inv-loop2 μ-loop2
+remaining-requires c κs = search needs
+
 with-record-requires : tie.Need-with-record-requires Inv-loop μ-loop Inv-loop2 μ-loop2
-with-record-requires c κs = omega (arith, (c .before .before .before .loop .inv .small))
+with-record-requires c κs = omega (arith, (c .before .before .before .before .before .loop .inv .small))
 
 add-k : tie.Need-add-k Inv-loop μ-loop Inv-loop2 μ-loop2
 add-k c = omega arith
@@ -80,8 +94,10 @@ loop-less : tie.Need-loop-less Inv-loop μ-loop Inv-loop2 μ-loop2
 loop-less c = omega arith
 
 loop-again : tie.Need-loop-again Inv-loop μ-loop Inv-loop2 μ-loop2
-loop-again c = let a = c .before .before .before .before .before .before .before .args in
-    opened-more (a .d) (a .commands) (a .memory .now) (a .image .now) (a .t4) (c .before .before .before .before .loop .taken) (c .before .before .before .before .loop .seen) (c .before .before .before .before .loop .k) (c .before .before .before .before .loop .inv) (c .with-record .result) (c .before .before .before .loop-test .taken) (c .with-record .ensures .0) (c .with-record .ensures .1)
+loop-again c = let a = c .before .before .before .before .before .before .before .before .before .args in
+    let l = c .before .before .before .before .before .before .loop in
+    opened-more (a .d) (a .commands) (a .memory .now) (a .image .now) (a .t4) (l .taken) (l .seen) (l .k) (l .inv) (c .with-record .result) (c .before .before .before .before .before .loop-test .taken)
+    (c .with-record .ensures .0 ∙ ap₂ (λ (b : Bool) (n : ℕ). seenWith (ltb (l .k) (a .commands)) b n (l .seen)) (c .before .before .bad-record .ensures) (c .before .remaining .ensures)) (c .with-record .ensures .1)
 
 first-number-requires : tie.Need-first-number-requires Inv-loop μ-loop Inv-loop2 μ-loop2
 first-number-requires c κs = search needs
@@ -116,8 +132,8 @@ mul-r-2 c = omega (arith, few (c .before))
 array-copy-out-r-2 : tie.Need-array-copy-out-r-2 Inv-loop μ-loop Inv-loop2 μ-loop2
 array-copy-out-r-2 c = omega (arith, few (c .before))
 
-remaining-requires : tie.Need-remaining-requires Inv-loop μ-loop Inv-loop2 μ-loop2
-remaining-requires c κs = search needs
+remaining-requires-2 : tie.Need-remaining-requires-2 Inv-loop μ-loop Inv-loop2 μ-loop2
+remaining-requires-2 c κs = search needs
 
 fewer-requires : tie.Need-fewer-requires Inv-loop μ-loop Inv-loop2 μ-loop2
 fewer-requires c κs = search needs
@@ -158,8 +174,8 @@ loop2-again c = let a = c .before .before .before .before .before .before .befor
     let v = c .before .before .before .before .before .take-steps in
     next-turn (a .d) (a .commands) (a .budget) (a .memory .now) (a .image .now) (a .t4) (l .memory) (l .image) (l .taken) (l .left) (l .at) (l .inv) (c .before .before .before .before .before .before .before .before .before .before .before .loop2-test .taken) (c .before .before .before .before .before .before .before .before .fewer .result) (count (c .before .before .before .before .before .before .before .before)) (v .last .0) (v .last .1 .0) (v .ensures) (v .kept .0) (v .kept .1 .0)
 
-sub-t49 : tie.Need-sub-t49 Inv-loop μ-loop Inv-loop2 μ-loop2
-sub-t49 c = omega (arith, (c .before .loop2 .inv .within))
+sub-t53 : tie.Need-sub-t53 Inv-loop μ-loop Inv-loop2 μ-loop2
+sub-t53 c = omega (arith, (c .before .loop2 .inv .within))
 
 same-length-3 : tie.Need-same-length-3 Inv-loop μ-loop Inv-loop2 μ-loop2
 same-length-3 c = (c .before .before .loop2 .inv .memory-length)
@@ -189,6 +205,10 @@ written-taken-spec =
     array-copy-out-r
     mul-taken
     array-write-taken
+    mul-bad-record
+    array-copy-out-bad-record
+    bad-record-requires
+    remaining-requires
     with-record-requires
     add-k
     loop-less
@@ -201,7 +221,7 @@ written-taken-spec =
     loop2-holds
     mul-r-2
     array-copy-out-r-2
-    remaining-requires
+    remaining-requires-2
     fewer-requires
     take-steps-requires
     add-taken
@@ -212,7 +232,7 @@ written-taken-spec =
     add-at
     loop2-less
     loop2-again
-    sub-t49
+    sub-t53
     same-length-3
     same-length-4
     returns-2)

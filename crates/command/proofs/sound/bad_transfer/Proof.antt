@@ -1,16 +1,14 @@
 -- `command::sound::bad_transfer` meets its contract: each test decides one part of the "or".
 use mathlib.Core.Path.{_≡_, refl, sym, ap, _∙_}
 use mathlib.Core.Bool.{Bool, true, false, _&&_}
-use mathlib.Core.List.{[]}
 use Prim.Native.Nat.{ℕ, _+_}
 use lib.Dec.{ltb}
 use borrow.Author.Tests.{eq-eqb, ne-eqb}
-use Rattle.meaning.specs.Store.{lent}
 use Rattle.meaning.specs.Command.{writes}
 use Rattle.meaning.proofs.Rows.{or-first, or-second}
 use Rattle.meaning.proofs.Tests.{and-no}
+use Rattle.command.specs.Data.{badMove}
 use Rattle.command.proofs.OneNumber.{writes-by-command}
-use Rattle.command.proofs.Data.{by-parts}
 use borrow.Author.Needs.{needs}
 use Rattle.command.proofs.sound.bad_transfer.Statement.{statement}
 use Rattle.command.proofs.sound.bad_transfer.Tie as tie
@@ -20,15 +18,15 @@ and-yes true = refl
 and-yes false = refl
 
 returns : tie.Need-returns
-returns c = let a = c .before .before .before .args in
-    sym (by-parts (a .d) (lent (a .memory .now) []) (a .r) ∙ or-first _ _ (eq-eqb _ _ (c .if1 .taken)))
+unfolding badMove
+returns c = sym (or-first _ _ (eq-eqb _ _ (c .if1 .taken)))
 
 bad-data-requires : tie.Need-bad-data-requires
-bad-data-requires c κs = search needs
+bad-data-requires c κs = c .before .before .pre .1
 
 returns-2 : tie.Need-returns-2
-returns-2 c = let a = c .before .before .before .before .before .args in
-    sym (by-parts (a .d) (lent (a .memory .now) []) (a .r) ∙ or-second _ _ (ne-eqb _ _ (c .before .before .if1 .left)) ∙ or-first _ _ (sym (c .before .bad-data .ensures) ∙ c .if2 .taken))
+unfolding badMove
+returns-2 c = sym (or-second _ _ (ne-eqb _ _ (c .before .before .if1 .left)) ∙ or-first _ _ (sym (c .before .bad-data .ensures) ∙ c .if2 .taken))
 
 sectors-requires : tie.Need-sectors-requires
 sectors-requires c κs = search needs
@@ -37,20 +35,23 @@ past-end-requires : tie.Need-past-end-requires
 past-end-requires c κs = search needs
 
 returns-3 : tie.Need-returns-3
-returns-3 c = let a = c .before .before .before .before .before .before .before .before .args in
+unfolding badMove
+returns-3 c = let a = c .before .before .before .before .before .before .before .args in
     let past = ap (λ (n : ℕ). ltb n (a .r .sector + a .r .count)) (sym (c .before .before .sectors .ensures .0)) ∙ sym (c .before .past-end .ensures) ∙ c .if3 .taken in
-    sym (by-parts (a .d) (lent (a .memory .now) []) (a .r) ∙ or-second _ _ (ne-eqb _ _ (c .before .before .before .before .before .if1 .left)) ∙ or-second _ _ (sym (c .before .before .before .before .bad-data .ensures) ∙ c .before .before .before .if2 .left) ∙ or-first _ _ past)
+    sym (or-second _ _ (ne-eqb _ _ (c .before .before .before .before .before .if1 .left)) ∙ or-second _ _ (sym (c .before .before .before .before .bad-data .ensures) ∙ c .before .before .before .if2 .left) ∙ or-first _ _ past)
 
 returns-4 : tie.Need-returns-4
-returns-4 c = let a = c .before .before .before .before .before .before .before .before .before .before .args in
+unfolding badMove
+returns-4 c = let a = c .before .before .before .before .before .before .before .before .before .args in
     let past = ap (λ (n : ℕ). ltb n (a .r .sector + a .r .count)) (sym (c .before .before .before .before .sectors .ensures .0)) ∙ sym (c .before .before .before .past-end .ensures) ∙ c .before .before .if3 .left in
-    writes-by-command (a .r) (c .before .before .before .before .before .before .before .before .before .before .pre) ∙ sym (and-yes (writes (a .r))) ∙ ap (λ (b : Bool). writes (a .r) && b) (sym (c .before .if4 .taken))
-    ∙ sym (by-parts (a .d) (lent (a .memory .now) []) (a .r) ∙ or-second _ _ (ne-eqb _ _ (c .before .before .before .before .before .before .before .if1 .left)) ∙ or-second _ _ (sym (c .before .before .before .before .before .before .bad-data .ensures) ∙ c .before .before .before .before .before .if2 .left) ∙ or-second _ _ past)
+    writes-by-command (a .r) (c .before .before .before .before .before .before .before .before .before .pre .0) ∙ sym (and-yes (writes (a .r))) ∙ ap (λ (b : Bool). writes (a .r) && b) (sym (c .before .if4 .taken))
+    ∙ sym (or-second _ _ (ne-eqb _ _ (c .before .before .before .before .before .before .before .if1 .left)) ∙ or-second _ _ (sym (c .before .before .before .before .before .before .bad-data .ensures) ∙ c .before .before .before .before .before .if2 .left) ∙ or-second _ _ past)
 
 returns-5 : tie.Need-returns-5
-returns-5 c = let a = c .before .before .before .before .before .before .before .before .before .args in
+unfolding badMove
+returns-5 c = let a = c .before .before .before .before .before .before .before .before .args in
     let past = ap (λ (n : ℕ). ltb n (a .r .sector + a .r .count)) (sym (c .before .before .before .sectors .ensures .0)) ∙ sym (c .before .before .past-end .ensures) ∙ c .before .if3 .left in
-    sym (by-parts (a .d) (lent (a .memory .now) []) (a .r) ∙ or-second _ _ (ne-eqb _ _ (c .before .before .before .before .before .before .if1 .left)) ∙ or-second _ _ (sym (c .before .before .before .before .before .bad-data .ensures) ∙ c .before .before .before .before .if2 .left) ∙ or-second _ _ past ∙ ap (λ (b : Bool). writes (a .r) && b) (c .if4 .left) ∙ and-no (writes (a .r)))
+    sym (or-second _ _ (ne-eqb _ _ (c .before .before .before .before .before .before .if1 .left)) ∙ or-second _ _ (sym (c .before .before .before .before .before .bad-data .ensures) ∙ c .before .before .before .before .if2 .left) ∙ or-second _ _ past ∙ ap (λ (b : Bool). writes (a .r) && b) (c .if4 .left) ∙ and-no (writes (a .r)))
 
 pub bad-transfer-spec : {M : Type 1} → statement M
 bad-transfer-spec =

@@ -1,6 +1,7 @@
 -- `command::touch::data_hull` meets its contract: whether the command moves data, and whether it has a list, decides whose hull it is.
 use mathlib.Core.Path.{sym, ap, ap₂, _∙_}
 use Prim.Native.Nat.{ℕ}
+use native.Mathlib.Omega.{arith}
 use Rattle.meaning.specs.Ranges.{bytes}
 use Rattle.meaning.proofs.Rows.{not-true, not-false}
 use Rattle.command.proofs.Moved.{moved-none, moved-plain, moved-listed}
@@ -27,7 +28,7 @@ plain-bytes-requires : tie.Need-plain-bytes-requires
 plain-bytes-requires c κs = search needs
 
 hull-with-requires : tie.Need-hull-with-requires
-hull-with-requires c κs = search needs
+hull-with-requires c κs = (omega (arith, ap (λ (h : Hull). h .bytes) (c .before .no-hull2 .ensures)), omega (arith, c .plain-bytes .ensures))
 
 returns-2 : tie.Need-returns-2
 returns-2 c = let a = c .before .before .before .before .before .before .before .args in

@@ -1,19 +1,32 @@
 -- `command::touch::hull_with` meets its contract: the earlier start and the later end are what the calls ensure.
+use mathlib.Core.Path.{ap, _∙_}
+use Prim.Native.Nat.{ℕ, _+_, max, min}
 use borrow.Author.Needs.{needs}
 use Rattle.command.proofs.touch.hull_with.Statement.{statement}
 use Rattle.command.proofs.touch.hull_with.Tie as tie
 
-earlier-requires : tie.Need-earlier-requires
-earlier-requires c κs = search needs
+begins-requires : tie.Need-begins-requires
+begins-requires c κs = search needs
 
-add-later : tie.Need-add-later
-add-later c = search needs
+smaller-requires : tie.Need-smaller-requires
+smaller-requires c κs = search needs
 
-later-requires : tie.Need-later-requires
-later-requires c κs = search needs
+add-larger : tie.Need-add-larger
+add-larger c = search needs
+
+larger-requires : tie.Need-larger-requires
+larger-requires c κs = search needs
+
+add-t8 : tie.Need-add-t8
+add-t8 c = search needs
 
 returns : tie.Need-returns
-returns c = λ j. record { low = c .before .earlier .ensures j; high = c .later .ensures j }
+returns c = let a = c .before .before .before .before .args in
+    let from = c .before .before .before .begins .ensures in
+    let low = c .before .before .smaller .ensures ∙ ap (min (a .h .low)) from in
+    let high = c .before .larger .ensures ∙ ap (λ (b : ℕ). max (a .h .high) (b + a .n)) from in
+    λ j. record { low = low j; high = high j; bytes = a .h .bytes + a .n }
 
 pub hull-with-spec : {M : Type 1} → statement M
-hull-with-spec = tie.close (tie.spec earlier-requires add-later later-requires returns)
+hull-with-spec =
+    tie.close (tie.spec begins-requires smaller-requires add-larger larger-requires add-t8 returns)

@@ -1,6 +1,6 @@
 -- `command::touch::list_hull` meets its contract: the hull so far, with the ranges that are left, is the whole.
 use mathlib.Core.Path.{_≡_, sym, ap, ap₂, _∙_}
-use Prim.Native.Nat.{_+_, _-_}
+use Prim.Native.Nat.{_+_, _-_, _*_, _≤_}
 use native.Mathlib.Omega.{arith}
 use mathlib.Core.List.{List, map}
 use lib.ListN.{take, drop}
@@ -15,7 +15,7 @@ use Rattle.command.proofs.touch.list_hull.Tie as tie
 
 abbrev Inv-loop : tie.InvT-loop
 Inv-loop n list last h₀ k₀ h k =
-    Going n list last k × (hullOf (map rangeOf (take n list)) ≡ hullFrom h (map rangeOf (drop k (take last list))))
+    Going n list last k × (h .bytes ≤ 65_535 * k) × (hullOf (map rangeOf (take n list)) ≡ hullFrom h (map rangeOf (drop k (take last list))))
 
 abbrev μ-loop : tie.MeasureT-loop
 μ-loop n list last h₀ k₀ h k = last - k
@@ -29,7 +29,7 @@ no-hull-requires c κs = search needs
 loop-holds : tie.Need-loop-holds Inv-loop μ-loop
 loop-holds c = let a = c .before .before .args in
     let g = going-start (a .n) (a .t1) (c .before .held .result) (c .before .held .ensures) (search needs) in
-    (g, ap₂ (λ (h : Hull) (xs : List Link). hullFrom h (map rangeOf xs)) (sym (c .no-hull .ensures)) (g .held))
+    (g, omega (arith, ap (λ (h : Hull). h .bytes) (c .no-hull .ensures)), ap₂ (λ (h : Hull) (xs : List Link). hullFrom h (map rangeOf xs)) (sym (c .no-hull .ensures)) (g .held))
 
 mul-hull-with-link : tie.Need-mul-hull-with-link Inv-loop μ-loop
 mul-hull-with-link c = search needs
@@ -38,7 +38,7 @@ array-copy-out-hull-with-link : tie.Need-array-copy-out-hull-with-link Inv-loop 
 array-copy-out-hull-with-link c = search needs
 
 hull-with-link-requires : tie.Need-hull-with-link-requires Inv-loop μ-loop
-hull-with-link-requires c κs = search needs
+hull-with-link-requires c κs = let l = c .before .before .loop in omega (arith, l .inv .0 .few, l .inv .1)
 
 add-k : tie.Need-add-k Inv-loop μ-loop
 add-k c = search needs
@@ -51,12 +51,12 @@ loop-again c = let a = c .before .before .before .before .before .before .args i
     let l = c .before .before .before .loop in
     let last = c .before .before .before .before .before .held .result in
     let h = c .before .before .loop-test .taken in
-    (going-on (a .n) (a .t1) last (l .k) (l .inv .0) h, l .inv .1 ∙ ap (λ (xs : List Link). hullFrom (l .h) (map rangeOf xs)) (next-link (a .n) (a .t1) last (l .k) (l .inv .0) h) ∙ ap (λ (g : Hull). hullFrom g (map rangeOf (drop (l .k + 1) (take last (a .t1))))) (sym (c .hull-with-link .ensures)))
+    (going-on (a .n) (a .t1) last (l .k) (l .inv .0) h, omega (arith, l .inv .1, c .hull-with-link .ensures .1), l .inv .2 ∙ ap (λ (xs : List Link). hullFrom (l .h) (map rangeOf xs)) (next-link (a .n) (a .t1) last (l .k) (l .inv .0) h) ∙ ap (λ (g : Hull). hullFrom g (map rangeOf (drop (l .k + 1) (take last (a .t1))))) (sym (c .hull-with-link .ensures .0)))
 
 returns : tie.Need-returns Inv-loop μ-loop
 returns c = let a = c .before .before .before .before .args in
     let l = c .before .loop in
-    sym (l .inv .1 ∙ ap (λ (xs : List Link). hullFrom (l .h) (map rangeOf xs)) (no-more-links (a .n) (a .t1) (c .before .before .before .held .result) (l .k) (l .inv .0) (c .loop-test .left)))
+    sym (l .inv .2 ∙ ap (λ (xs : List Link). hullFrom (l .h) (map rangeOf xs)) (no-more-links (a .n) (a .t1) (c .before .before .before .held .result) (l .k) (l .inv .0) (c .loop-test .left)))
 
 pub list-hull-spec : {M : Type 1} → statement M
 list-hull-spec =

@@ -184,7 +184,7 @@ module _ {M : Type 1} (𝓤 : URA M) (H : Heap 𝓤) (A : Atoms 𝓤) (W : Given
         -- [t[k]; what it owns; the others; the lent records; ..]
         assigns ! (of-opd ! (load ! (from ! (stop !)) (look ! (pos 5 9) refl))) (from ! (hop ! (look ! (pos 5 12) refl) (stop !))) (store-raw ! 0 refl (a-record .lawful 𝓤 H A W .typed r _ is-r .0)) $
         move ! (1 ∷ []) $ drop ! $ owned ! R (Is R) (a-record .makes 𝓤 H A W) r (recordVals r) is-r $ move ! (1 ∷ 0 ∷ []) $ elem-put ! R fullShare to k r (recordVals r) l₃ 0 (in-array t h) $ move ! (1 ∷ 2 ∷ []) $
-        rewrite ! 2 (λ (ys : List Record). ‵ (row R fullShare ys l₃ 0)) (over-next k xs noRecords (inside t h) (small t h)) refl $
+        rewrite ! 2 (λ (ys : List Record). ‵ (row R fullShare ys l₃ 0)) (over-next noRecord k xs noRecords (inside t h) (small t h)) refl $
         assigns-last ! (bin ! (load ! (from ! (stop !)) (look ! (pos 3 4) refl)) (lit ! tt) (record { fits = next-fits h (within .1) })) (from ! (stop !)) (store ! (pos 3 4) refl (tt, record { fits = next-fits h (within .1) })) $
         empties ! 3 (since 6 E) refl $ on))
 

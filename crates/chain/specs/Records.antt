@@ -1,0 +1,39 @@
+-- The records that are made of IOPBs by their addresses, one by one, over the records of a table. m is memory.
+use Prim.Native.Nat.{ℕ}
+use mathlib.Core.List.{List, [], _++_, map}
+use lib.ListN.{length, take, drop}
+use Rattle.meaning.specs.declared.Drive.{Drive}
+use Rattle.meaning.specs.declared.Record.{Record}
+use Rattle.meaning.specs.Links.{noLinks}
+use Rattle.meaning.specs.Code.{copiedAt, earlyCode, firstSector}
+use Rattle.meaning.specs.Walk.{recordOf}
+use Rattle.chain.specs.Coding.{lateCode}
+
+-- the record of the IOPB at an address
+abbrev pub recordAt : List ℕ → Drive → ℕ → Record
+recordAt m d a = recordOf (copiedAt m a) a d m
+
+-- the same with no list
+unfoldable pub plainRecordAt : List ℕ → Drive → ℕ → Record
+unfolding copiedAt earlyCode lateCode
+plainRecordAt m d a =
+    let c = copiedAt m a in
+    record {
+      iopb = a;
+      address = c .address;
+      sector = firstSector d c;
+      taken = 0;
+      ranges = 0;
+      count = c .count;
+      byte0 = c .byte0;
+      code = lateCode c (earlyCode c d) (length m) [] 0;
+      list = noLinks;
+    }
+
+-- the first n records of one table over those of another
+abbrev pub over : ℕ → List Record → List Record → List Record
+over n of to = take n of ++ drop n to
+
+-- a table over whose first n records those of the IOPBs at the first n of these addresses are laid
+abbrev pub filledAt : List ℕ → Drive → ℕ → List ℕ → List Record → List Record
+filledAt m d n addresses t = over n (map (recordAt m d) addresses) t
