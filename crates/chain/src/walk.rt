@@ -166,14 +166,14 @@ pub fn record_at(memory: &[u8], d: Drive, at: u32) -> Record
     record_of(memory, code::copied(memory, at), at, d)
 }
 
-// The same with no list, which is the record itself where SGM is clear: the compiler sees that the list is zeros, and lays them where the
-// record goes.
+// The same with no list, which is the record itself where SGM is clear. The list is made before any test, so that the compiler sees one
+// list of zeros on every way, and lays it where the record goes.
 pub fn plain_record_at(memory: &[u8], d: Drive, at: u32) -> Record
     ensures { λ r. ⌜ r ≡ plainRecordAt (now (memory .entry)) d at ⌝ }
 {
+    let list = links::no_links();
     let c = code::copied(memory, at);
     let early = code::early_code(c, d);
-    let list = links::no_links();
     Record {
         iopb: at,
         address: c.address,
