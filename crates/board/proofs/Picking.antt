@@ -86,12 +86,8 @@ module _ (d : Drive) (many : ℕ) (s : State) (full : length (s .table) ≡ most
   handed-whole h = ap (λ (t : List Record). record { table = t; store = s .store }) (take-all many (s .table) (omega arith))
 
   -- sizes that are right: all 32 records are handed over
-  module _ (right : (storeWrong d (s .store) || ltb many mostCommands) ≡ false) where
-    pub all-handed : handed many s ≡ s
-    all-handed = handed-whole (ltb-false many mostCommands (or-false (storeWrong d (s .store)) (ltb many mostCommands) right .1))
-
-    pub sizes-right : sizesWrong d s ≡ false
-    sizes-right = full-table d s (omega arith) ∙ or-false (storeWrong d (s .store)) (ltb many mostCommands) right .0
+  pub all-handed : (storeWrong d (s .store) || ltb many mostCommands) ≡ false → handed many s ≡ s
+  all-handed right = handed-whole (ltb-false many mostCommands (or-false (storeWrong d (s .store)) (ltb many mostCommands) right .1))
 
 -- ---- what a pick sees of its table is enough for its number
 

@@ -12,7 +12,7 @@ use base.Logic.{ent, sep, ex}
 use base.Fml.{Lft, GName, Share, Fml, fsep, flft, fdead, fobs, fauth, fres, flent, fobor}
 use prog.Wp.{Heap}
 use ghost.Atoms.{Atoms, sem}
-use types.Kit.{Given, ‵, _⊛_, some, later, _$_, _∵_, !, qed, by, move, use1, drop, split, pick, fsplit, fjoin, feqI, frame, await, updating, now as at-once, show, done}
+use types.Kit.{Given, ‵, _⊛_, some, later, _$_, _∵_, !, qed, by, move, use1, drop, split, pick, fsplit, fjoin, feqI, await, updating, now as at-once, show, done}
 use types.Tokens.{lent-back}
 use types.Share.{arr-parts}
 use denote.RattleType.{RattleType}
@@ -21,7 +21,7 @@ use denote.Memory.{shares}
 use denote.Ref.{RefT}
 use denote.Slice.{sliceVal, MutSlice, ShrSlice, heres, at-slice, codedHoleys, finally, res-finally}
 use denote.Lend.{Held, lends-shr-slice}
-use denote.Index.{row, opens-slice, closes-slice}
+use denote.Index.{opens-slice, closes-slice}
 
 -- elements of type R at place (b, o); the holder has them at κ, with share q and under the name γ, and the call at κ′
 module _ (R : RattleType) (κ κ′ : Lft) (q : Share) (γ : GName) (b o : ℕ) (xs : List (R .Denot)) where

@@ -53,8 +53,7 @@ use Rattle.meaning.proofs.Record.Laws as Rec′
 use Rattle.command.specs.declared.touch.Footprint.{Footprint}
 use Rattle.command.specs.declared.sound.Looked.{Looked}
 use Rattle.command.specs.Footprints.{footprintOf}
-use Rattle.command.specs.Data.{badIn}
-use Rattle.command.specs.Look.{mayBlock, lookedAs}
+use Rattle.command.specs.Look.{lookedAs}
 use Rattle.command.proofs.touch.Footprint as Fp
 use Rattle.command.proofs.touch.Footprint.Laws as Fp′
 use Rattle.command.proofs.sound.Looked as Lk

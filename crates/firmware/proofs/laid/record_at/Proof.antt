@@ -1,5 +1,5 @@
 -- `firmware::laid::record_at` meets its contract: a walk of its code, by hand. The lent table is looked into, and one record is read.
-use mathlib.Core.Path.{_≡_, refl, sym}
+use mathlib.Core.Path.{refl, sym}
 use Prim.Native.Nat.{ℕ, _*_, _<_, _^_}
 use native.Mathlib.Omega.{arith}
 use mathlib.Core.List.{List, [], _∷_}

@@ -2,7 +2,7 @@
 -- Another is shown to `look_over` and to `record_at`, each for a lifetime that is made for the call; the board's pick goes by what they
 -- saw, at the lifetime that memory, image and table share; and the steps that it took are put back. All that the proof knows of the
 -- functions that are called is that each meets its contract.
-use mathlib.Core.Path.{_≡_, refl, sym, ap, subst, subst₂, _∙_}
+use mathlib.Core.Path.{_≡_, refl, sym, ap, subst, subst₂}
 use Prim.Native.Nat.{ℕ, _≤_, _<_, _^_, min}
 use native.Mathlib.Omega.{arith}
 use mathlib.Core.Bool.{Bool}
