@@ -16,6 +16,8 @@ pub mod differ;
 pub mod player;
 pub mod translate;
 
-// The clock, and the count of copies.
+// The clock; the compiled module's text, the count of copies in it and the search for wide products.
 pub mod copies;
+pub mod llvm;
+pub mod products;
 pub mod speed;

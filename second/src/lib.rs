@@ -1,6 +1,7 @@
 //! A second, independent model of the board, written from document 01, tickets 1
-//! and 2 of document 02 and the manual alone. It is slow and plain on purpose: it says what
-//! the rules say, so that a faster board can be held against it, case by case.
+//! to 3 of document 02 and the manual alone. It is slow and plain on purpose: it
+//! says what the rules say, so that a faster board can be held against it, case by
+//! case.
 
 // The board and its rules.
 pub mod board;

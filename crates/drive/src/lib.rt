@@ -38,24 +38,35 @@ pub fn maxima_right(d: Drive) -> bool
     d.last_sector <= d.sector
 }
 
-// How many sectors a cylinder has: a whole track for each head before the last, and the last head's.
+// How many sectors a cylinder has: a whole track for each head before the last, and the last head's. A number of 32 bits, so that no
+// product of it is wider.
+fn on_cylinder(d: Drive) -> u32
+    ensures { λ r. ⌜ r ≡ perCylinder d ⌝ }
+    ensures within { λ r. ⌜ (1 ≤ r) × (r ≤ 65_536) ⌝ }
+{
+    let on_track = d.sector as u32 + 1;
+    let on_last_head = d.last_sector as u32 + 1;
+    d.head as u32 * on_track + on_last_head
+}
+
+// The same as a count.
 pub fn per_cylinder(d: Drive) -> Count
     ensures { λ r. ⌜ r .0 ≡ perCylinder d ⌝ }
     ensures within { λ r. ⌜ (1 ≤ r .0) × (r .0 ≤ 65_536) ⌝ }
 {
-    let on_track = d.sector as u32 + 1;
-    let on_last_head = d.last_sector as u32 + 1;
-    let on_cylinder = d.head as u32 * on_track + on_last_head;
-    Count(on_cylinder as u64)
+    Count(on_cylinder(d) as u64)
 }
 
-// How many sectors the drive has. 65,536 cylinders of at most 65,536 sectors are at most 2 to the 32: they fit.
+// How many sectors the drive has: those of the cylinders before the last, at most 65,535 of at most 65,536 sectors, which fit 32 bits; and
+// those of the last. Together they are at most 2 to the 32, so the sum has 64 bits.
 pub fn sectors(d: Drive) -> Count
     ensures { λ r. ⌜ r .0 ≡ sectorCount d ⌝ }
     ensures within { λ r. ⌜ (1 ≤ r .0) × (r .0 ≤ 4_294_967_296) ⌝ }
 {
-    let cylinders = d.cylinder as u64 + 1;
-    Count(cylinders * per_cylinder(d).0)
+    let each = on_cylinder(d);
+    let before_the_last = d.cylinder as u32 * each;
+    let all = before_the_last as u64 + each as u64;
+    Count(all)
 }
 
 // The largest sector number of the drive.

@@ -9,6 +9,7 @@ pub mod Overwrite
 pub mod Spaces
 pub mod Places
 pub mod Numbering
+pub mod Widths
 pub mod Means
 pub mod Table
 pub mod Ranges

@@ -44,6 +44,11 @@ module _ (d : Drive) where
   last-or-before : (head : ℕ) → head ≤ d .head → (head ≡ d .head) ⊎ (head < d .head)
   last-or-before head h = eq-or-lt-of-le h
 
+  -- the count as a sum: the cylinders before the last, and the last
+  pub count-by-cylinders : sectorCount d ≡ d .cylinder * perCylinder d + perCylinder d
+  unfolding sectorCount
+  count-by-cylinders = omega (arith, add-mul (d .cylinder) 1 (perCylinder d))
+
   -- ---- within a cylinder
 
   some-cylinder : 0 < perCylinder d

@@ -18,7 +18,7 @@ use Rattle.meaning.specs.Command.{noRecord}
 use Rattle.meaning.specs.Run.{runNumber}
 
 -- a drive by its maxima: of cylinders, of heads, of sectors, and of sectors on the last head
-abbrev openDrive : ℕ → ℕ → ℕ → ℕ → Drive
+abbrev pub openDrive : ℕ → ℕ → ℕ → ℕ → Drive
 openDrive cylinder head sector last = record { cylinder = cylinder; head = head; sector = sector; «last_sector» = last; protected = false }
 
 abbrev pub shortLast : Drive

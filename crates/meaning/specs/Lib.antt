@@ -1,6 +1,6 @@
 -- The rules of the board as definitions. First how its tables of numbers are read, where bytes are, and what a drive is; an IOPB and a
 -- viewer over it; link lists, the codes and the walk; steps and when a command waits; picks and runs; the bench; and examples, proved: the
--- starred ones, those with a shorter last head, and those with link lists.
+-- starred ones, those with a shorter last head, those with link lists, and those at the edge of 16 and of 32 bits.
 pub mod First
 pub mod Each
 pub mod OneReply
@@ -30,3 +30,4 @@ pub mod Lines
 pub mod Starred
 pub mod LastHead
 pub mod Scatter
+pub mod Widths

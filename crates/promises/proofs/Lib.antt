@@ -8,6 +8,7 @@ pub mod RangesKept
 pub mod EachNumber
 pub mod Looks
 pub mod Numbering
+pub mod Widths
 pub mod Views
 pub mod Refused
 -- demand 2: what one step moves, and what many do

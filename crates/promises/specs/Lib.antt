@@ -6,6 +6,7 @@ pub mod PickNumbers
 pub mod EachNumber
 pub mod Looks
 pub mod Numbering
+pub mod Widths
 pub mod Views
 pub mod Codes
 pub mod RangesKept

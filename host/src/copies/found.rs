@@ -1,8 +1,10 @@
 //! What one instruction copies: all of a table, or a piece of something.
 
-use crate::copies::blocks::Function;
 use crate::copies::places::{places, Place};
-use crate::copies::{text, Sizes};
+use crate::copies::Sizes;
+use crate::llvm::blocks::Function;
+use crate::llvm::calls::{self, Call};
+use crate::llvm::text;
 use std::collections::BTreeSet;
 
 pub enum Found {
@@ -50,11 +52,10 @@ pub fn found(function: &Function, line: &str, sizes: Sizes) -> Result<Option<Fou
     if right.starts_with("store ") {
         return Ok(stored(function, right).map(Found::Piece));
     }
-    let calls = ["call ", "tail call ", "musttail call ", "notail call "];
-    if calls.iter().any(|start| right.starts_with(start)) {
-        return called(function, right, sizes);
-    }
-    Ok(None)
+    let Some(Call { name, operands }) = calls::call(right) else { return Ok(None) };
+    let name =
+        name.ok_or_else(|| format!("{}: a call that is not followed: {right}", function.name))?;
+    Ok(called(function, name, &operands, sizes))
 }
 
 /// A store of what was loaded: a piece goes from one place to another.
@@ -68,26 +69,19 @@ fn stored(function: &Function, right: &str) -> Option<Piece> {
     Some(Piece { bytes: text::bytes(kind)?, from, to })
 }
 
-fn called(function: &Function, right: &str, sizes: Sizes) -> Result<Option<Found>, String> {
-    let Some(at) = right.find('@') else {
-        return Err(format!("{}: a call that is not followed: {right}", function.name));
-    };
-    let name = text::name(&right[at..]).unwrap_or_default();
-    let rest = &right[at + 1 + name.len()..];
-    let operands =
-        text::parts(rest.find('(').and_then(|at| text::in_brackets(&rest[at..])).unwrap_or(""));
+fn called(function: &Function, name: &str, operands: &[&str], sizes: Sizes) -> Option<Found> {
     let copies = ["llvm.memcpy.", "llvm.memmove."].iter().any(|start| name.starts_with(start));
     if copies || name == "memcpy" || name == "memmove" {
-        return Ok(copied(function, &operands, sizes));
+        return copied(function, operands, sizes);
     }
     if name.starts_with("llvm.memset.") || name == "memset" {
         let whole = operands.get(2).and_then(|length| constant(length));
-        return Ok(whole.is_some_and(|bytes| bytes >= sizes.table).then_some(Found::Fill));
+        return whole.is_some_and(|bytes| bytes >= sizes.table).then_some(Found::Fill);
     }
     if name.starts_with("llvm.") {
-        return Ok(None);
+        return None;
     }
-    Ok(Some(Found::Call(name.to_string())))
+    Some(Found::Call(name.to_string()))
 }
 
 fn constant(operand: &str) -> Option<u64> {

@@ -2,14 +2,12 @@
 //! and counts on each exported function the copies of a table's size along the way through it that
 //! has most. What is seen and what is not is told in docs/DECISIONS.md.
 
-pub mod blocks;
 pub mod found;
 pub mod places;
-pub mod text;
 pub mod ways;
 
 use crate::declared::Record;
-use blocks::Function;
+use crate::llvm::blocks::{self, Function};
 use std::collections::HashMap;
 use ways::Ways;
 

@@ -1,7 +1,7 @@
 //! What a pointer points into: something that the caller lent, or a local of the function.
 
-use crate::copies::blocks::Function;
-use crate::copies::text;
+use crate::llvm::blocks::Function;
+use crate::llvm::text;
 use std::collections::BTreeSet;
 
 #[derive(Clone, Debug, PartialEq, Eq, PartialOrd, Ord)]

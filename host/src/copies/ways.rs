@@ -1,9 +1,9 @@
 //! The ways through a function, and which has most copies. A function is a graph of blocks; a loop
 //! in it is a set of blocks that all lead to each other.
 
-use crate::copies::blocks::Function;
 use crate::copies::found::{found, Found, Piece};
 use crate::copies::Sizes;
+use crate::llvm::blocks::Function;
 use std::collections::{BTreeSet, HashMap};
 
 /// What is counted along a way: each in words, or without end where it stands in a loop.

@@ -220,7 +220,7 @@ fn wrong_image_length(rng: &mut Rng, script: &Script) -> u64 {
 
 /// Calls that meet a wrong size; one that looks meets only the image's, and
 /// one that asks for a place only the drive's.
-fn calls_on_sizes(rng: &mut Rng, script: &mut Script) {
+pub fn calls_on_sizes(rng: &mut Rng, script: &mut Script) {
     for _ in 0..rng.between(1, 3) {
         match rng.below(8) {
             0 | 1 => {

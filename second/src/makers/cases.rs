@@ -8,6 +8,7 @@ use crate::makers::ground::{any_drive, ground, limit_ground};
 use crate::makers::random_lists::cut;
 use crate::makers::rng::Rng;
 use crate::makers::script::Script;
+use crate::makers::wide_cases::wide_case;
 use crate::makers::ALL_32_BITS;
 use crate::range::Range;
 use crate::record::Record;
@@ -19,7 +20,8 @@ pub fn random_case(seed: u64, n: u64) -> Script {
     let mut script = Script::default();
     script.say(Line::Case(n));
     match rng.below(100) {
-        0..=85 => chain_case(&mut rng, &mut script),
+        0..=82 => chain_case(&mut rng, &mut script),
+        83..=85 => wide_case(&mut rng, &mut script),
         86..=91 => table_case(&mut rng, &mut script),
         92..=94 => view_case(&mut rng, &mut script),
         95 | 96 => place_case(&mut rng, &mut script),
@@ -54,7 +56,7 @@ fn chain_case(rng: &mut Rng, script: &mut Script) {
 }
 
 /// Puts a few other bytes here and there, then the chain over them.
-fn lay(rng: &mut Rng, script: &mut Script, chain: &Chain) {
+pub fn lay(rng: &mut Rng, script: &mut Script, chain: &Chain) {
     let memory = script.state.board.memory_bytes();
     for _ in 0..rng.below(4) {
         if memory >= 4 {

@@ -35,7 +35,7 @@ pub fn fill_image(rng: &mut Rng, script: &mut Script) {
 }
 
 /// A drive of at most 60 sectors.
-fn small_drive(rng: &mut Rng) -> Drive {
+pub fn small_drive(rng: &mut Rng) -> Drive {
     let protected = rng.percent(12);
     let (max_cylinder, max_head, max_sector) = match rng.below(16) {
         0 => (1, 1, 7),

@@ -15,6 +15,8 @@ pub mod rng;
 pub mod script;
 pub mod spoil;
 pub mod spoil_ranges;
+pub mod wide_cases;
+pub mod wide_drives;
 
 /// The largest address, place and sector that a line can name.
 pub const ALL_32_BITS: u64 = 0xFFFF_FFFF;

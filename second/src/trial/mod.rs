@@ -10,3 +10,4 @@ pub mod list_walks;
 pub mod state;
 pub mod stream;
 pub mod tally;
+pub mod wide;

@@ -5,6 +5,7 @@ use crate::bench::BenchReply;
 use crate::conflict::{data_bytes, meet, sectors, status_bytes};
 use crate::iopb::fields_at;
 use crate::pick::take_step;
+use crate::place::Place;
 use crate::record::{causes, Cause, Record, MOST_COMMANDS};
 use crate::trial::answer::Answer;
 use crate::trial::last_head;
@@ -12,6 +13,7 @@ use crate::trial::line::Line;
 use crate::trial::list_steps;
 use crate::trial::list_walks;
 use crate::trial::state::State;
+use crate::trial::wide;
 use crate::walk::WalkReply;
 use std::collections::{BTreeMap, BTreeSet};
 
@@ -78,6 +80,7 @@ impl Tally {
 
     /// Counts one line: the state before it, and the state after it.
     pub fn see(&mut self, before: &State, state: &State, line: &Line, answer: &Answer) {
+        self.see_drive(state, answer);
         match answer {
             Answer::Quiet | Answer::Steps(_) => {}
             Answer::Case(_) => self.add("cases"),
@@ -106,23 +109,42 @@ impl Tally {
                 self.see_finished(reply.number, reply.finished);
                 self.see_causes(state, reply.number);
             }
-            Answer::Look { number, .. } => {
-                self.add(&format!("look {number}"));
-                self.see_one(state, "look", *number);
-                if let Line::Look(sector) = line {
-                    self.add_all(last_head::look_rows(&state.board.drive, *sector, *number));
-                }
-            }
-            Answer::Place { number, place } => {
-                self.add(&format!("place {number}"));
-                if let Line::Place(sector) = line {
-                    let drive = &state.board.drive;
-                    self.add_all(last_head::place_rows(drive, *sector, *number, place));
-                }
-            }
+            Answer::Look { number, .. } => self.see_look(state, line, *number),
+            Answer::Place { number, place } => self.see_place(state, line, *number, place),
             Answer::Fields(_) => self.add("fields"),
             Answer::View { number, .. } => self.add(&format!("view {number}")),
             Answer::Deck(reply) => self.see_deck(reply),
+        }
+    }
+
+    /// The drive, at each call that takes it.
+    fn see_drive(&mut self, state: &State, answer: &Answer) {
+        if let Answer::Walk { .. }
+        | Answer::Pick { .. }
+        | Answer::Picks(_)
+        | Answer::Written(_)
+        | Answer::Look { .. }
+        | Answer::Place { .. } = answer
+        {
+            self.add_all(wide::drive_rows(&state.board.drive));
+        }
+    }
+
+    fn see_look(&mut self, state: &State, line: &Line, number: u8) {
+        self.add(&format!("look {number}"));
+        self.see_one(state, "look", number);
+        if let Line::Look(sector) = line {
+            self.add_all(last_head::look_rows(&state.board.drive, *sector, number));
+            self.add_all(wide::look_rows(&state.board, *sector, number));
+        }
+    }
+
+    fn see_place(&mut self, state: &State, line: &Line, number: u8, place: &Place) {
+        self.add(&format!("place {number}"));
+        if let Line::Place(sector) = line {
+            let drive = &state.board.drive;
+            self.add_all(last_head::place_rows(drive, *sector, number, place));
+            self.add_all(wide::place_rows(drive, *sector, number));
         }
     }
 
@@ -145,6 +167,7 @@ impl Tally {
             let fields = fields_at(&state.board, *address);
             self.add_all(last_head::command_rows(drive, &fields, record));
             self.add_all(list_walks::command_rows(&state.board, &fields, record));
+            self.add_all(wide::command_rows(&state.board, &fields, record));
             if fields.next % 2 == 1 {
                 self.add(if fields.chen == 1 { ODD_CHAINED } else { ODD_ALONE });
             }
@@ -161,6 +184,7 @@ impl Tally {
         let table_right = !word.starts_with("lent") || state.lent as u64 >= MOST_COMMANDS;
         let others_right = memory_right && table_right;
         self.add_all(last_head::refused_one_rows(&state.board, word, others_right));
+        self.add_all(wide::refused_one_rows(&state.board, word, others_right));
     }
 
     fn see_finished(&mut self, number: u8, finished: bool) {
@@ -228,8 +252,9 @@ impl Tally {
         }
         let found = causes(&state.board, &state.table, state.commands);
         self.add_all(last_head::refused_nine_rows(&state.board, &state.table, state.commands));
-        let in_use = state.commands.min(MOST_COMMANDS) as usize;
-        self.add_all(list_steps::refused_nine_rows(&state.table[..in_use]));
+        let in_use = &state.table[..state.commands.min(MOST_COMMANDS) as usize];
+        self.add_all(list_steps::refused_nine_rows(in_use));
+        self.add_all(wide::refused_nine_rows(&state.board, in_use, &found));
         for (cause, name) in CAUSES {
             if found.contains(&cause) {
                 self.add(&format!("refused 9: {name}"));
@@ -316,6 +341,7 @@ fn all_names() -> Vec<String> {
     names.extend(last_head::names());
     names.extend(list_walks::names().into_iter().map(String::from));
     names.extend(list_steps::names().into_iter().map(String::from));
+    names.extend(wide::names());
     // The bench's sizes are right and it starts at 0, so 1 and 2 cannot come.
     names.extend(
         ["bench deck", "bench chain 3", "bench chain 4", "bench chain 5"].map(String::from),

@@ -2,17 +2,13 @@
 use borrow.Author.Needs.{needs}
 use native.Mathlib.Omega.{arith}
 use mathlib.Core.Path.{refl}
-use Prim.Native.Nat.{ℕ, _+_, _*_, _≤_}
-use native.Mathlib.Nat.{mul-le-mul, add-le-add}
-use mir.Syntax.{w32}
+use Prim.Native.Nat.{_+_, _*_}
+use native.Mathlib.Nat.{add-le-add}
 use Rattle.meaning.specs.Sectors.{sectorNumber}
-use Rattle.drive.proofs.Products.{product-fits, sum-fits, tracks}
+use Rattle.meaning.proofs.Widths.{tracks, cylinders}
+use Rattle.drive.proofs.Products.{product-fits, sum-fits}
 use Rattle.drive.proofs.sector_number.Statement.{statement}
 use Rattle.drive.proofs.sector_number.Tie as tie
-
--- the whole cylinders before a sector: at most 65,535, of at most 65,536 sectors
-cylinders : {a b : ℕ} → a ≤ 65535 → b ≤ 65536 → a * b ≤ 65535 * 65536
-cylinders x y = mul-le-mul {n₂ = 65535} {m₂ = 65536} x y
 
 per-cylinder-requires : tie.Need-per-cylinder-requires
 per-cylinder-requires c κs = search needs
@@ -27,18 +23,18 @@ add-on-track : tie.Need-add-on-track
 add-on-track c = search needs
 
 mul-result : tie.Need-mul-result
-mul-result c = product-fits w32 65535 65536 _ _ (omega arith) (omega arith) tt
+mul-result c = product-fits _ 65535 65536 _ _ (omega arith) (omega arith) tt
 
 mul-result-2 : tie.Need-mul-result-2
-mul-result-2 c = product-fits w32 255 256 _ _ (omega arith) (omega arith) tt
+mul-result-2 c = product-fits _ 255 256 _ _ (omega arith) (omega arith) tt
 
 add-result : tie.Need-add-result
 add-result c =
-    sum-fits w32 (65535 * 65536) (255 * 256) _ _ (cylinders (omega arith) (omega arith)) (tracks (omega arith) (omega arith)) tt
+    sum-fits _ (65535 * 65536) (255 * 256) _ _ (cylinders (omega arith) (omega arith)) (tracks (omega arith) (omega arith)) tt
 
 add-result-2 : tie.Need-add-result-2
 add-result-2 c =
-    sum-fits w32 (65535 * 65536 + 255 * 256) 255 _ _
+    sum-fits _ (65535 * 65536 + 255 * 256) 255 _ _
     (add-le-add (cylinders (omega arith) (omega arith)) (tracks (omega arith) (omega arith))) (omega arith) tt
 
 returns : tie.Need-returns

@@ -1,5 +1,6 @@
 //! Further cases made by hand, at every edge of document 01, of the last head's
-//! own maximum and of link lists, and past it; each file here has one subject.
+//! own maximum, of link lists and of 16 and 32 bits, and past it; each file here
+//! has one subject.
 
 pub mod closes;
 pub mod codes;
@@ -22,6 +23,10 @@ pub mod shortcuts;
 pub mod sizes;
 pub mod views;
 pub mod walks;
+pub mod wide_ends;
+pub mod wide_places;
+pub mod wide_sizes;
+pub mod wide_tables;
 
 use crate::board::SECTOR_BYTES;
 use crate::makers::block::Block;
@@ -55,6 +60,10 @@ pub fn all_edges(script: &mut Script) {
     list_tables::all(script);
     list_runs::all(script);
     list_decks::all(script);
+    wide_places::all(script);
+    wide_sizes::all(script);
+    wide_ends::all(script);
+    wide_tables::all(script);
 }
 
 /// Memory of a length, with a pattern.

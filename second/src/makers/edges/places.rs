@@ -75,7 +75,7 @@ fn largest_drives(script: &mut Script) {
 
 /// The numbers just past the first full head, the first cylinder, the last
 /// cylinder but one, the last full head, and the drive.
-fn ends(drive: &Drive) -> [u64; 5] {
+pub fn ends(drive: &Drive) -> [u64; 5] {
     let cylinder = u64::from(drive.max_cylinder);
     let last_head = u64::from(drive.max_head);
     [

@@ -1,6 +1,6 @@
 //! The functions of a module, each as its blocks, and which block leads to which.
 
-use crate::copies::text;
+use crate::llvm::text;
 use std::collections::HashMap;
 
 pub struct Block {
