@@ -23,4 +23,3 @@ pub mod WrittenThenRead
 pub mod OneRange
 -- and, since steps keep lengths, one reply
 pub mod OneReply
-pub mod Example

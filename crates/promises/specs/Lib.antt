@@ -19,4 +19,3 @@ pub mod PickMoves
 pub mod Taken
 pub mod WrittenThenRead
 pub mod OneRange
-pub mod Example

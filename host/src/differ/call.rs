@@ -1,7 +1,9 @@
 //! One call of a board, and its reply, in a form that both sides share.
 
 use crate::declared::{Ran, Walked};
+use second::board::Board;
 use second::place::Place;
+use second::record::MOST_COMMANDS;
 use std::fmt;
 
 /// A call. `lent` is the length of the table that is lent for it.
@@ -51,6 +53,21 @@ impl Call {
             Call::Look { .. } => "look",
             Call::Place { .. } => "place",
             Call::View { .. } => "view",
+        }
+    }
+
+    /// Whether all that it gives 1 for is right, but for the drive and its image; none if it does
+    /// not test an image.
+    pub fn others_right(&self, ground: &Board) -> Option<bool> {
+        match self {
+            Call::Walk { lent, .. }
+            | Call::Pick { lent, .. }
+            | Call::Picks { lent, .. }
+            | Call::Written { lent, .. } => {
+                Some(*lent as u64 >= MOST_COMMANDS && ground.memory_right())
+            }
+            Call::Look { .. } => Some(true),
+            Call::Place { .. } | Call::View { .. } => None,
         }
     }
 }

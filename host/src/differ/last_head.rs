@@ -5,7 +5,7 @@ use crate::differ::call::{Call, Reply};
 use second::board::{Board, IMAGE_LIMIT, SECTOR_BYTES};
 use second::drive::Drive;
 use second::iopb::{view, Fields};
-use second::record::{causes, Cause, Record, MOST_COMMANDS};
+use second::record::{causes, Cause, Record};
 
 const SHORTER: &str = "drive with a shorter last head";
 const EQUAL: &str = "drive with equal heads";
@@ -125,14 +125,7 @@ fn over_an_end(drive: &Drive, record: &Record) -> bool {
 
 /// The rows of a call that gave 1 where all else that this is given for is right.
 fn rows_of_one(call: &Call, ground: &Board) -> Vec<String> {
-    let others_right = match call {
-        Call::Walk { lent, .. }
-        | Call::Pick { lent, .. }
-        | Call::Picks { lent, .. }
-        | Call::Written { lent, .. } => *lent as u64 >= MOST_COMMANDS && ground.memory_right(),
-        Call::Look { .. } => true,
-        Call::Place { .. } | Call::View { .. } => return Vec::new(),
-    };
+    let Some(others_right) = call.others_right(ground) else { return Vec::new() };
     let equal_bytes = SECTOR_BYTES * ground.drive.as_if_equal().number_of_sectors();
     let as_equal = ground.image.len() as u64 == equal_bytes && equal_bytes <= IMAGE_LIMIT;
     match (others_right, ground.drive.last_head_right()) {

@@ -11,6 +11,7 @@ use second::makers::chain::random_chain;
 use second::makers::ground::{any_drive, ground, limit_ground};
 use second::makers::rng::Rng;
 use second::makers::script::Script;
+use second::makers::wide_drives::edge_drive;
 use second::record::Record;
 
 /// Plays one chain on both sides. The error says which call differed, and what each gave.
@@ -165,7 +166,8 @@ fn sizes(play: &mut Play) -> Played {
 /// Places on drives of any size: no image is needed for them.
 fn places(play: &mut Play) -> Played {
     for _ in 0..play.rng.between(2, 5) {
-        let drive = any_drive(&mut play.rng);
+        let rng = &mut play.rng;
+        let drive = if rng.percent(30) { edge_drive(rng) } else { any_drive(rng) };
         play.say(|| format!("the drive becomes {drive:?}"));
         play.sides.set_drive(drive);
         for _ in 0..play.rng.between(1, 4) {

@@ -11,3 +11,4 @@ pub mod make;
 pub mod play;
 pub mod sides;
 pub mod spoil;
+pub mod wide_rows;

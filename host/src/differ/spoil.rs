@@ -9,6 +9,7 @@ use second::board::{IMAGE_LIMIT, SECTOR_BYTES};
 use second::drive::Drive;
 use second::makers::ground::other_drive;
 use second::makers::rng::Rng;
+use second::makers::wide_drives::tempting_drive;
 use second::record::Record;
 use second::trial::line::{field_of, set_field, FIELD_MOST};
 
@@ -126,7 +127,7 @@ pub fn wrong_size_and_call(play: &mut Play) -> Played {
     match play.rng.below(8) {
         0..=4 => {
             let right = play.sides.ground().drive;
-            let wrong = other_drive(&mut play.rng, right);
+            let wrong = wrong_drive(play, right);
             play.say(|| format!("the drive becomes {wrong:?}"));
             play.sides.set_drive(wrong);
             calls_on_sizes(play)?;
@@ -150,6 +151,18 @@ pub fn wrong_size_and_call(play: &mut Play) -> Played {
         }
     }
     Ok(())
+}
+
+/// A drive beside the right one, or one so large that its size would be right in fewer bits.
+fn wrong_drive(play: &mut Play, right: Drive) -> Drive {
+    let rng = &mut play.rng;
+    if rng.once_in(6) {
+        return Drive {
+            protected: right.protected,
+            ..tempting_drive(rng, right.number_of_sectors())
+        };
+    }
+    other_drive(rng, right)
 }
 
 /// A length beside the right one, or that of a drive with equal heads.

@@ -19,8 +19,8 @@ use Rattle.meaning.specs.Touch.{conflict}
 use Rattle.meaning.specs.Run.{byPicks, ranTo, runReply}
 use Rattle.meaning.specs.Deck.{benchDrive, benchMemory, benchImage}
 use Rattle.meaning.specs.Conditions.{Within}
 use Rattle.promises.specs.OneRange.{ButSgm}
-use Rattle.promises.specs.Example.{Speaks, SpeaksOfLists, withList, withoutList, SpeaksOfOneRange}
+use Rattle.speaks.specs.Example.{Speaks, SpeaksOfLists, withList, withoutList, SpeaksOfOneRange}
 
 pub speaks : Speaks
 unfolding byteOf copiedAt linkCount linksIn codeOf earlyCode linksRead recordOf walkReply walkLeaves sizesWrong maximaRight imageRight maximumOn perCylinder sectorCount sectorNumber benchMemory benchImage benchDrive stepsOf finished conflict runReply ranTo byPicks crosses

@@ -1,0 +1,2 @@
+-- The examples compute.
+pub mod Example
