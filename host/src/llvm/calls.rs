@@ -23,17 +23,6 @@ pub fn call(right: &str) -> Option<Call<'_>> {
 
 /// Where the first name begins that stands in no brackets and no quotes: all that comes before the
 /// callee is types and attributes, and some of these have brackets of their own.
-fn first_name(text: &str) -> Option<usize> {
-    let (mut depth, mut quoted) = (0i32, false);
-    for (at, c) in text.char_indices() {
-        match c {
-            '"' => quoted = !quoted,
-            _ if quoted => {}
-            '(' | '[' | '{' | '<' => depth += 1,
-            ')' | ']' | '}' | '>' => depth -= 1,
-            '%' | '@' if depth == 0 => return Some(at),
-            _ => {}
-        }
-    }
-    None
+fn first_name(words: &str) -> Option<usize> {
+    text::outside(words).find(|(_, c)| matches!(c, '%' | '@')).map(|(at, _)| at)
 }

@@ -25,21 +25,28 @@ pub fn defined(line: &str) -> (Option<&str>, &str) {
     (None, line)
 }
 
-/// Splits at the commas that stand in no brackets and no quotes.
-pub fn parts(text: &str) -> Vec<&str> {
-    let (mut parts, mut from, mut depth, mut quoted) = (Vec::new(), 0, 0i32, false);
-    for (at, c) in text.char_indices() {
+/// The characters that stand in no brackets and no quotes, each with its place; brackets and quotes
+/// themselves are left out.
+pub fn outside(text: &str) -> impl Iterator<Item = (usize, char)> + '_ {
+    let (mut depth, mut quoted) = (0i32, false);
+    text.char_indices().filter(move |(_, c)| {
         match c {
             '"' => quoted = !quoted,
             _ if quoted => {}
             '(' | '[' | '{' | '<' => depth += 1,
             ')' | ']' | '}' | '>' => depth -= 1,
-            ',' if depth == 0 => {
-                parts.push(text[from..at].trim());
-                from = at + 1;
-            }
-            _ => {}
+            _ => return depth == 0,
         }
+        false
+    })
+}
+
+/// Splits at the commas that stand in no brackets and no quotes.
+pub fn parts(text: &str) -> Vec<&str> {
+    let (mut parts, mut from) = (Vec::new(), 0);
+    for (at, _) in outside(text).filter(|(_, c)| *c == ',') {
+        parts.push(text[from..at].trim());
+        from = at + 1;
     }
     parts.push(text[from..].trim());
     parts
