@@ -7,7 +7,7 @@ use meaning::Maximum;
 use meaning::Place;
 use meaning::Placed;
 ghost use mathlib.Core.Path.{_≡_};
-ghost use Prim.Native.Nat.{_+_, _≤_, _<_};
+ghost use Prim.Native.Nat.{_+_, _*_, _≤_, _<_};
 ghost use mathlib.Core.Bool.{true};
 ghost use mathlib.Core.List.{[]};
 ghost use lib.Dec.{ltb};
@@ -57,16 +57,30 @@ pub fn per_cylinder(d: Drive) -> Count
     Count(on_cylinder(d) as u64)
 }
 
-// How many sectors the drive has: those of the cylinders before the last, at most 65,535 of at most 65,536 sectors, which fit 32 bits; and
-// those of the last. Together they are at most 2 to the 32, so the sum has 64 bits.
+// The sectors of so many cylinders before another, each of so many sectors. At most 65,535 times at most 65,536 is a number of 32 bits, and
+// no other product is as large.
+fn of_cylinders(cylinders: u16, each: u32) -> u32
+    requires { ⌜ each ≤ 65_536 ⌝ }
+    ensures { λ r. ⌜ r ≡ cylinders * each ⌝ }
+    ensures within { λ r. ⌜ r ≤ 4_294_901_760 ⌝ }
+{
+    cylinders as u32 * each
+}
+
+// Two numbers of sectors together: a sum of 64 bits, since it may be more than 32 hold.
+fn together(a: u32, b: u32) -> Count
+    ensures { λ r. ⌜ r .0 ≡ a + b ⌝ }
+{
+    Count(a as u64 + b as u64)
+}
+
+// How many sectors the drive has: those of the cylinders before the last, and those of the last. Together they are at most 2 to the 32.
 pub fn sectors(d: Drive) -> Count
     ensures { λ r. ⌜ r .0 ≡ sectorCount d ⌝ }
     ensures within { λ r. ⌜ (1 ≤ r .0) × (r .0 ≤ 4_294_967_296) ⌝ }
 {
     let each = on_cylinder(d);
-    let before_the_last = d.cylinder as u32 * each;
-    let all = before_the_last as u64 + each as u64;
-    Count(all)
+    together(of_cylinders(d.cylinder, each), each)
 }
 
 // The largest sector number of the drive.
@@ -97,7 +111,7 @@ pub fn sector_number(d: Drive, cylinder: u16, head: u8, sector: u8) -> u32
 {
     let on_cylinder = per_cylinder(d).0 as u32;
     let on_track = d.sector as u32 + 1;
-    cylinder as u32 * on_cylinder + head as u32 * on_track + sector as u32
+    of_cylinders(cylinder, on_cylinder) + head as u32 * on_track + sector as u32
 }
 
 // The place of a number that the drive has: its whole cylinders, then the whole tracks of what is left, then the sectors of what is left then.

@@ -2,7 +2,6 @@
 -- numbers of 32 bits.
 use Prim.Native.Nat.{ℕ, _+_, _*_, _≤_}
 use native.Mathlib.Nat.{mul-le-mul, add-le-add}
-use native.Mathlib.Omega.{arith}
 
 -- the whole tracks of a cylinder before a head: at most 255, of at most 256 sectors
 pub tracks : {a b : ℕ} → a ≤ 255 → b ≤ 256 → a * b ≤ 255 * 256
