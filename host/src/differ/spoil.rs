@@ -156,11 +156,10 @@ pub fn wrong_size_and_call(play: &mut Play) -> Played {
 /// A drive beside the right one, or one so large that its size would be right in fewer bits.
 fn wrong_drive(play: &mut Play, right: Drive) -> Drive {
     let rng = &mut play.rng;
-    if rng.once_in(6) {
-        return Drive {
-            protected: right.protected,
-            ..tempting_drive(rng, right.number_of_sectors())
-        };
+    let sectors = right.number_of_sectors();
+    // a drive that no image could be right for may have no larger one beside it
+    if SECTOR_BYTES * sectors <= IMAGE_LIMIT && rng.once_in(6) {
+        return Drive { protected: right.protected, ..tempting_drive(rng, sectors) };
     }
     other_drive(rng, right)
 }
