@@ -61,3 +61,8 @@ bool lay_chain(uint8_t *memory, rosadenca_drive drive, const wish *wishes, size_
     }
     return true;
 }
+
+void lay_cylinder(uint8_t *memory, size_t place, uint16_t cylinder)
+{
+    two_bytes(memory + IOPB_SPACING * place + 0x0A, cylinder);
+}

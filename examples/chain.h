@@ -22,4 +22,7 @@ enum { IOPB_SPACING = 32 };
    of every wish. */
 bool lay_chain(uint8_t *memory, rosadenca_drive drive, const wish *wishes, size_t count);
 
+/* Names another cylinder in the IOPB that is laid at a place of the chain. */
+void lay_cylinder(uint8_t *memory, size_t place, uint16_t cylinder);
+
 #endif

@@ -1,7 +1,8 @@
 /*
- * A small host: maps an image file as the board's disk, asks the board where some sectors are, lays a chain of five commands in its own
- * memory, has the board walk it, takes some steps in an order of its own, lets the board do the rest as written, and says in words what
- * happened. Then it moves a page that lies in three pieces.
+ * A small host: maps an image file as the board's disk, asks the board where some sectors are, lays a chain of nine commands in its own
+ * memory, some of them mistakes, has the board walk it, takes some steps in an order of its own, lets the board do the rest as written,
+ * and says in words what happened, and how much would have fitted where it asked for too much. Then it moves a page that lies in three
+ * pieces.
  * Usage: host IMAGE. tools/example builds it, makes an image for it and runs it.
  */
 #include "disk.h"
@@ -14,12 +15,19 @@
 
 enum { COPIED_TO = 0x400, PAGES_TO = 0x800, LETTER_AT = 0x1000 };
 
+/* Near the end of memory, at 2000H: three sectors before it, and one byte less than a sector. */
+enum { THREE_LEFT = MEMORY_BYTES - 3 * ROSADENCA_SECTOR_BYTES, NONE_LEFT = MEMORY_BYTES - ROSADENCA_SECTOR_BYTES + 1 };
+
 static const wish wishes[] = {
     {ROSADENCA_READ_DATA, 10, 1, COPIED_TO, NULL, 0, "read sector 10 to address 400H"},
     {ROSADENCA_WRITE_DATA, 16, 1, COPIED_TO, NULL, 0, "write what then lies at 400H to sector 16"},
     {ROSADENCA_READ_DATA, 40, 2, PAGES_TO, NULL, 0, "read sectors 40 and 41 to address 800H"},
     {ROSADENCA_WRITE_DATA, 50, 1, LETTER_AT, NULL, 0, "write the letter at 1000H to sector 50"},
     {ROSADENCA_READ_DATA, 0, 0, PAGES_TO, NULL, 0, "read no sector at all, which is a mistake"},
+    {ROSADENCA_READ_DATA, SECTORS - 1, 2, PAGES_TO, NULL, 0, "read two sectors from sector 55 on, a mistake: it is the last"},
+    {ROSADENCA_READ_DATA, 0, 4, THREE_LEFT, NULL, 0, "read four sectors to 1A00H, a mistake: 1,536 bytes are left there"},
+    {ROSADENCA_READ_DATA, 0, 1, NONE_LEFT, NULL, 0, "read one sector to 1E01H, a mistake: 511 bytes are left there"},
+    {ROSADENCA_READ_DATA, 0, 1, PAGES_TO, NULL, 0, "read a sector of cylinder 4, a mistake: the last is 3"},
 };
 enum { WISHES = sizeof wishes / sizeof wishes[0] };
 
@@ -69,6 +77,8 @@ static bool play_chain(lent *host)
         fputs("host: a wish names a sector that the disk has not\n", stderr);
         return false;
     }
+    /* no sector's number leads to the cylinder of the last wish */
+    lay_cylinder(host->memory, WISHES - 1, CYLINDERS);
     printf("I lay a chain of %d commands in memory, and the board walks it:\n", (int)WISHES);
     if (!tell_walk(host, wishes))
         return false;

@@ -4,22 +4,33 @@
  */
 #include "split.h"
 
+#include "disk.h"
+
 #include <inttypes.h>
 #include <stdio.h>
 #include <string.h>
 
-enum { PAGE_LIST_AT = 0x100, SHORT_LIST_AT = 0x120 };
+enum { PAGE_LIST_AT = 0x100, SHORT_LIST_AT = 0x120, LATE_LIST_AT = 0x140 };
 
 /* The lengths may be anything that adds up to the sectors: here the second sector begins within the second piece. */
 static const rosadenca_link page[] = {{0x400, 300, 0}, {0x800, 500, 0}, {0xC00, 224, 0}};
 static const rosadenca_link too_short[] = {{0x400, 300, 0}, {0x800, 200, 0}};
-enum { PIECES = sizeof page / sizeof page[0], SHORT_PIECES = sizeof too_short / sizeof too_short[0] };
+static const rosadenca_link too_late[] = {{0x400, 512, 0}, {MEMORY_BYTES - 510, 512, 0}};
+enum {
+    PIECES = sizeof page / sizeof page[0],
+    SHORT_PIECES = sizeof too_short / sizeof too_short[0],
+    LATE_PIECES = sizeof too_late / sizeof too_late[0]
+};
 
 static const wish wishes[] = {
     {ROSADENCA_READ_DATA, 20, 2, PAGE_LIST_AT, page, PIECES, "read sectors 20 and 21 to the three pieces"},
     {ROSADENCA_WRITE_DATA, 30, 2, PAGE_LIST_AT, page, PIECES, "write the three pieces to sectors 30 and 31"},
     {ROSADENCA_READ_DATA, 20, 1, SHORT_LIST_AT, too_short, SHORT_PIECES,
      "read sector 20 to 300 and 200 bytes, which is a mistake: a sector has 512"},
+    {ROSADENCA_READ_DATA, SECTORS - 1, 2, PAGE_LIST_AT, page, PIECES,
+     "read two sectors from sector 55 on to the three pieces, a mistake: it is the last"},
+    {ROSADENCA_READ_DATA, 20, 2, LATE_LIST_AT, too_late, LATE_PIECES,
+     "read sectors 20 and 21 to 400H and 1E02H, a mistake: 510 bytes are left there"},
 };
 enum { WISHES = sizeof wishes / sizeof wishes[0] };
 
@@ -30,12 +41,13 @@ static void tell_pieces(void)
         printf("  %d bytes at %" PRIX32 "H\n", page[k].length, page[k].address);
 }
 
-/* The list is no longer needed once the chain is walked, so its bytes are used for something else. */
+/* A list is no longer needed once the chain is walked, so its bytes are used for something else. */
 static void reuse_lists(lent *host)
 {
     memset(host->memory + PAGE_LIST_AT, 0xFF, ROSADENCA_LINK_BYTES * PIECES);
     memset(host->memory + SHORT_LIST_AT, 0xFF, ROSADENCA_LINK_BYTES * SHORT_PIECES);
-    puts("The walk has copied both lists, so I use their bytes for something else. The board does all as written:");
+    memset(host->memory + LATE_LIST_AT, 0xFF, ROSADENCA_LINK_BYTES * LATE_PIECES);
+    puts("The walk has copied the lists, so I use their bytes for something else. The board does all as written:");
 }
 
 bool play_split(lent *host)

@@ -54,8 +54,9 @@ void tell_statuses(const lent *host)
     puts("Each IOPB holds its status now:");
     for (size_t place = 0; place < host->commands; place++) {
         rosadenca_iopb iopb = rosadenca_view(host->memory, MEMORY_BYTES, (uint32_t)(IOPB_SPACING * place));
-        printf("  place %zu: DONE %d, ERRS %d, code %02X: %s\n", place, iopb.done, iopb.errs, iopb.completion,
-               code_in_words(iopb.completion));
+        printf("  place %zu: DONE %d, ERRS %d, code %02X: %s", place, iopb.done, iopb.errs, iopb.completion, code_in_words(&iopb));
+        print_fitted(&iopb);
+        putchar('\n');
     }
 }
 

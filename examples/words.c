@@ -1,6 +1,11 @@
 /* The board's numbers and codes in words. */
 #include "words.h"
 
+#include <stdio.h>
+
+/* Byte 3 has no larger number: it stands for all that are larger too. */
+enum { MOST_TOLD = 255 };
+
 const char *number_in_words(uint8_t number)
 {
     switch (number) {
@@ -19,21 +24,46 @@ const char *number_in_words(uint8_t number)
     }
 }
 
-const char *code_in_words(uint8_t code)
+/* Whether the sectors go past the end of the drive. There at least one would have fitted, so 0 is the code's other meaning. */
+static bool past_drive(const rosadenca_iopb *iopb)
 {
-    switch (code) {
+    return iopb->completion == ROSADENCA_CODE_CYLINDER && iopb->internal != 0;
+}
+
+/* Whether the data, in one piece, goes past the end of memory. With a link list nothing is told of how much would have fitted. */
+static bool past_memory(const rosadenca_iopb *iopb)
+{
+    return iopb->completion == ROSADENCA_CODE_BUS_ERROR && !iopb->sgm;
+}
+
+const char *code_in_words(const rosadenca_iopb *iopb)
+{
+    switch (iopb->completion) {
     case ROSADENCA_CODE_SUCCESS: return "it went well";
     case ROSADENCA_CODE_NEXT_ODD: return "the next address is odd";
     case ROSADENCA_CODE_UNIMPLEMENTED: return "the board has no such command";
     case ROSADENCA_CODE_NOT_READY: return "there is no such drive";
     case ROSADENCA_CODE_COUNT_ZERO: return "the count of sectors is zero";
-    case ROSADENCA_CODE_CYLINDER: return "the cylinder is too high, or the drive ends too early";
+    case ROSADENCA_CODE_CYLINDER: return past_drive(iopb) ? "past the end of the drive" : "the cylinder is above its maximum";
     case ROSADENCA_CODE_HEAD: return "the head is too high";
     case ROSADENCA_CODE_SECTOR: return "the sector is too high for its head";
     case ROSADENCA_CODE_WRITE_PROTECTED: return "the drive is protected";
-    case ROSADENCA_CODE_BUS_ERROR: return "the data, or its link list, does not fit in memory";
+    case ROSADENCA_CODE_BUS_ERROR:
+        return past_memory(iopb) ? "past the end of memory" : "the link list, or a range of it, goes past the end of memory";
     case ROSADENCA_CODE_LENGTHS: return "the lengths of the link list don't add up to the sectors";
     case ROSADENCA_CODE_RANGE_ODD: return "a range of the link list begins at an odd address";
     default: return "a code that the rules do not have";
     }
+}
+
+void print_fitted(const rosadenca_iopb *iopb)
+{
+    if (!past_drive(iopb) && !past_memory(iopb))
+        return;
+    if (iopb->internal == 0)
+        printf("; not one whole sector would have fitted");
+    else if (iopb->internal == MOST_TOLD)
+        printf("; %d sectors or more would have fitted", (int)MOST_TOLD);
+    else
+        printf("; %d sector%s would have fitted", iopb->internal, iopb->internal == 1 ? "" : "s");
 }

@@ -29,6 +29,18 @@
  *   lie in several ranges. All lengths together are 512 x count;
  * - the walk copies the list into the record: the list's own bytes may be used for something else as soon as the walk is done;
  * - ranges of one command may overlap. They are filled in list order, so that of a sector the later range of the list is what is left.
+ *
+ * How much would have fitted: where a command asked for too much, status byte 3 of its closed IOPB tells it (Code 17 and 18, Step 9).
+ * What a caller has to know of it:
+ * - it is not 0 in two cases only, in a table as the walk fills it. With code 10H it is how many sectors the drive has from the
+ *   command's first one on, with a link list or without; with code 4BH of a command without a link list, how many whole sectors memory
+ *   has room for from the data address on. 255 means 255 or more;
+ * - code 10H with 0 is a cylinder above its maximum. A 10H at the end of the drive always has at least 1, since the first sector itself
+ *   is on the drive;
+ * - code 4BH with 0 is one of two things, and SGM in byte 0 tells which: with SGM clear not one whole sector would have fitted, with SGM
+ *   set nothing is told;
+ * - with every other code, 00 among them, it is 0, and tells nothing;
+ * - nothing is moved for such a command. A host that wants what fits asks again, with a count that fits.
  */
 #ifndef ROSADENCA_H
 #define ROSADENCA_H
@@ -76,11 +88,13 @@ enum {
     ROSADENCA_CODE_UNIMPLEMENTED = 0x14,   /* a command above 2, or SGM with No Operation, or a subfunction that is not 0: Code 2 */
     ROSADENCA_CODE_NOT_READY = 0x42,       /* a unit other than 0: Code 4 */
     ROSADENCA_CODE_COUNT_ZERO = 0x13,      /* no sector to move: Code 5 */
-    ROSADENCA_CODE_CYLINDER = 0x10,        /* the cylinder is above its maximum, or the drive ends too early: Code 6 and 9 */
+    ROSADENCA_CODE_CYLINDER = 0x10,        /* the cylinder is above its maximum, and byte 3 is 0: Code 6; or the drive ends too early,
+                                              and byte 3 is not 0: Code 9 */
     ROSADENCA_CODE_HEAD = 0x11,            /* the head is above its maximum: Code 7 */
     ROSADENCA_CODE_SECTOR = 0x12,          /* the sector is above the maximum of its own head: Code 8 */
     ROSADENCA_CODE_WRITE_PROTECTED = 0x90, /* a write to a protected drive: Code 10 */
-    ROSADENCA_CODE_BUS_ERROR = 0x4B,       /* the link list is not all in memory: Code 14; a range of the data goes past its end: Code 11 */
+    ROSADENCA_CODE_BUS_ERROR = 0x4B,       /* the link list is not all in memory: Code 14; a range of the data goes past its end: Code 11.
+                                              Without a list byte 3 tells how many sectors would have fitted */
     ROSADENCA_CODE_LENGTHS = 0x1C,         /* the lengths of the link list don't add up to the sectors: Code 15 */
     ROSADENCA_CODE_RANGE_ODD = 0x1F,       /* a range of the link list begins at an odd address, be it empty or not: Code 16 */
     ROSADENCA_CODE_SUCCESS = 0x00          /* none of these: Code 3 and 12 */
@@ -133,10 +147,13 @@ typedef struct rosadenca_record {
     uint32_t address; /* the data address: of its data, or of its link list, which is not looked at any more after the walk */
     uint32_t sector;  /* the number of its first sector */
     uint32_t taken;   /* steps taken */
-    uint32_t ranges;  /* how many ranges its link list has; 0 where it has none, or where the walk did not read it */
+    uint16_t ranges;  /* how many ranges its link list has; 0 where it has none, or where the walk did not read it */
     uint16_t count;   /* how many sectors */
     uint8_t byte0;    /* the copied byte 0 */
     uint8_t code;     /* the code that its close will post */
+    uint8_t fitted;   /* how many sectors would have fitted, 255 if more; 0 where nothing is told. Its close posts it in byte 3, as it
+                         stands here and whatever the code is: Code 18, Step 9 */
+    uint8_t unused;   /* 0 after the walk; nothing looks at it */
     rosadenca_link list[ROSADENCA_MOST_LINKS]; /* the ranges, in list order; those past `ranges` are 0 and 0 after the walk */
 } rosadenca_record;
 
@@ -170,7 +187,7 @@ typedef struct rosadenca_iopb {
     uint8_t wrpt;          /* byte 2, bit 4: the drive is protected */
     uint8_t oncl;          /* byte 2, bit 1: on cylinder */
     uint8_t drdy;          /* byte 2, bit 0: drive ready */
-    uint8_t internal;      /* byte 3: internal status */
+    uint8_t internal;      /* byte 3: internal status. Of a closed IOPB, how many sectors would have fitted, where that is told */
     uint8_t subfunction;   /* byte 4 */
     uint8_t unit;          /* byte 5, bits 2-0 */
     uint8_t head;          /* byte C */
@@ -215,9 +232,11 @@ ROSADENCA_AT(rosadenca_record, address, 4);
 ROSADENCA_AT(rosadenca_record, sector, 8);
 ROSADENCA_AT(rosadenca_record, taken, 12);
 ROSADENCA_AT(rosadenca_record, ranges, 16);
-ROSADENCA_AT(rosadenca_record, count, 20);
-ROSADENCA_AT(rosadenca_record, byte0, 22);
-ROSADENCA_AT(rosadenca_record, code, 23);
+ROSADENCA_AT(rosadenca_record, count, 18);
+ROSADENCA_AT(rosadenca_record, byte0, 20);
+ROSADENCA_AT(rosadenca_record, code, 21);
+ROSADENCA_AT(rosadenca_record, fitted, 22);
+ROSADENCA_AT(rosadenca_record, unused, 23);
 ROSADENCA_AT(rosadenca_record, list, 24);
 ROSADENCA_HOLDS(sizeof(rosadenca_walked) == 16);
 ROSADENCA_AT(rosadenca_walked, number, 0);
@@ -257,7 +276,7 @@ ROSADENCA_AT(rosadenca_part, length, 8);
  * Walks the chain that starts at an address, and copies what is needed from every IOPB, and from its link list, into the table, before
  * anything moves: Walk 1.
  * Numbers, in this order: 1, 2, then at each IOPB in turn 5, 3, 4; else 0 (Walk 5 to 10). A command that will fail is accepted too:
- * its record holds its code.
+ * its record holds its code, and how many sectors would have fitted where that is told (Code 18).
  * On 0 the records of the commands are written, with no step taken, and those past the last command are left alone. On any other
  * number the table is left alone, and commands is 0.
  */
@@ -267,11 +286,13 @@ rosadenca_walked rosadenca_walk(const uint8_t *memory, size_t memory_length, con
 /*
  * Takes one step of the command at a place of the table, the first being 0: Pick 1. A transfer with code 00 has as many steps as its
  * count, and each moves one sector; every other command has one step (Step 1 to 3). The last step also closes the command: after its
- * sector has moved, it writes bytes 0 to 3 of its IOPB (Step 4 to 9).
+ * sector has moved, it writes bytes 0 to 3 of its IOPB, all of them from its record and the drive and none from what lies in memory by
+ * then (Step 4 to 9).
  * Numbers, in this order: 1, 9, 8, 7, 6; else 0 (Pick 2 to 7). 9 is for over 32 commands, or for a record in use that has its IOPB
  * not all in memory or more steps taken than it has, or that is a transfer with no sector, with data or sectors outside memory or
  * drive, or a write to a protected drive (Spoiled 1 to 7). Of a transfer with a link list the data is every range: 9 is also for more
- * than 32 of them (Spoiled 9), and for lengths that do not add up to the sectors (Spoiled 10).
+ * than 32 of them (Spoiled 9), and for lengths that do not add up to the sectors (Spoiled 10). How many sectors would have fitted gives
+ * no 9, whatever the record says of it (Spoiled 8).
  * On 0 one step is taken in memory, image and table. On any other number nothing is changed.
  */
 uint8_t rosadenca_pick(uint8_t *memory, size_t memory_length, uint8_t *image, size_t image_length, rosadenca_drive drive,

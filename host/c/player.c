@@ -10,7 +10,7 @@
 #include <string.h>
 
 /* The limits of the format. A list of picks has the most numbers, and is the longest line. */
-enum { MOST_MEMORY = 66560, MOST_IMAGE = 16778240, RECORDS = 40, FIELDS = 8, MOST_NUMBERS = 256, LINE_BYTES = 2048 };
+enum { MOST_MEMORY = 66560, MOST_IMAGE = 16778240, RECORDS = 40, FIELDS = 9, MOST_NUMBERS = 256, LINE_BYTES = 2048 };
 
 /* The calls that are not lent use the first 32 records. */
 enum { BY_VALUE = ROSADENCA_MOST_COMMANDS };
@@ -45,10 +45,9 @@ static uint32_t digest_number(uint32_t before, uint32_t value, size_t bytes)
 
 static const uint32_t of_nothing = UINT32_C(2166136261);
 
-/* The number of ranges, and all that a record has room for: also those past the number, which a call must leave alone. */
+/* All the ranges that a record has room for: also those past their number, which a call must leave alone. */
 static uint32_t digest_ranges(uint32_t before, const rosadenca_record *record)
 {
-    before = digest_number(before, record->ranges, 4);
     for (size_t k = 0; k < ROSADENCA_MOST_LINKS; k++) {
         before = digest_number(before, record->list[k].address, 4);
         before = digest_number(before, record->list[k].length, 2);
@@ -68,6 +67,9 @@ static uint32_t digest_table(void)
         so_far = digest_number(so_far, table[k].count, 2);
         so_far = digest_number(so_far, table[k].byte0, 1);
         so_far = digest_number(so_far, table[k].code, 1);
+        so_far = digest_number(so_far, table[k].ranges, 2);
+        so_far = digest_number(so_far, table[k].fitted, 1);
+        so_far = digest_number(so_far, table[k].unused, 1);
         so_far = digest_ranges(so_far, &table[k]);
     }
     return so_far;
@@ -149,7 +151,8 @@ static bool set_field(uint64_t place, uint64_t field, uint64_t value)
     case 4: record->count = (uint16_t)value; return true;
     case 5: record->byte0 = (uint8_t)value; return true;
     case 6: record->code = (uint8_t)value; return true;
-    case 7: record->ranges = (uint32_t)value; return true;
+    case 7: record->ranges = (uint16_t)value; return true;
+    case 8: record->fitted = (uint8_t)value; return true;
     default: return false;
     }
 }
@@ -293,7 +296,7 @@ static const struct {
 } words[] = {
     {"case", 1, 1, play_case},         {"memory", 3, 3, play_memory},       {"put", 2, 65, play_put},
     {"image", 4, 4, play_image},       {"disk", 2, 65, play_disk},          {"drive", 5, 5, play_drive},
-    {"record", 9, 9, play_record},     {"range", 4, 4, play_range},         {"spoil", 3, 3, play_spoil},
+    {"record", 10, 10, play_record},   {"range", 4, 4, play_range},         {"spoil", 3, 3, play_spoil},
     {"commands", 1, 1, play_commands}, {"lent", 1, 1, play_lent},           {"walk", 1, 1, play_walk},
     {"pick", 1, 1, play_pick},         {"picks", 0, 256, play_picks},       {"written", 1, 1, play_written},
     {"look", 1, 1, play_look},         {"fields", 1, 1, play_fields},       {"view", 1, 1, play_view},

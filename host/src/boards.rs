@@ -21,6 +21,7 @@ pub struct Board {
     pub look_number: fn(&[u8], Drive, u32) -> u8,
     pub look_part: fn(&[u8], Drive, u32) -> Part,
     pub place: fn(Drive, u32) -> Placed,
+    pub chain_steps: fn(&[Record], usize) -> u64,
     pub view_number: fn(&[u8], u32) -> u8,
     pub view: fn(&[u8], u32) -> Fields,
 }
@@ -34,6 +35,7 @@ pub const ARCHIVE: Board = Board {
     look_number: archive::look_number,
     look_part: archive::look_part,
     place: archive::place,
+    chain_steps: archive::chain_steps,
     view_number: field::view_number,
     view: field::view,
 };
@@ -47,6 +49,7 @@ pub const ORDINARY: Board = Board {
     look_number: ordinary::look_number,
     look_part: ordinary::look_part,
     place: ordinary::place,
+    chain_steps: ordinary::chain_steps,
     view_number: ordinary::view_number,
     view: ordinary::view,
 };

@@ -43,7 +43,8 @@ pub struct Link {
 }
 
 /// One accepted command, as the walk leaves it in the table. It has a link list exactly if `ranges`
-/// is not 0; `list` then holds its ranges, as the walk copied them.
+/// is not 0; `list` then holds its ranges, as the walk copied them. Its close posts `code`, and beside
+/// it `fitted`: how many sectors would have fitted, 255 if more, and 0 where the walk tells none.
 #[repr(C)]
 #[derive(Clone, Copy, Debug, Default, PartialEq, Eq)]
 pub struct Record {
@@ -51,10 +52,13 @@ pub struct Record {
     pub address: u32,
     pub sector: u32,
     pub taken: u32,
-    pub ranges: u32,
+    pub ranges: u16,
     pub count: u16,
     pub byte0: u8,
     pub code: u8,
+    pub fitted: u8,
+    /// 0 after the walk; nothing looks at it.
+    pub unused: u8,
     pub list: [Link; 32],
 }
 

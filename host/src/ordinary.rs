@@ -74,6 +74,36 @@ impl Bounds {
     fn hold_sectors(&self, first: u64, count: u16) -> bool {
         first + u64::from(count) <= self.sectors
     }
+
+    /// How many sectors the drive has from a first one on.
+    fn sectors_from(&self, first: u64) -> u64 {
+        self.sectors.saturating_sub(first)
+    }
+
+    /// How many whole sectors memory has room for from an address on.
+    fn sectors_at(&self, address: u32) -> u64 {
+        self.memory.saturating_sub(u64::from(address)) / SECTOR as u64
+    }
+}
+
+/// How a command will end: its code, and how many sectors would have fitted where that is told.
+struct Ending {
+    code: u8,
+    fitted: u8,
+}
+
+impl Ending {
+    /// Past an end, before which so many sectors would have fitted.
+    fn past_an_end(code: u8, fitted: u64) -> Ending {
+        Ending { code, fitted: fitted.min(u64::from(u8::MAX)) as u8 }
+    }
+}
+
+/// A code that tells no number.
+impl From<u8> for Ending {
+    fn from(code: u8) -> Ending {
+        Ending { code, fitted: 0 }
+    }
 }
 
 /// The thirty bytes of an IOPB, if all of them are in memory.
@@ -115,10 +145,10 @@ fn maximum_on(drive: Drive, head: u8) -> u8 {
     }
 }
 
-/// The code that a command will get before its data is looked at; `first` is the number of its first
-/// sector.
-fn early_code(bounds: &Bounds, drive: Drive, f: &Fields, first: u64) -> u8 {
-    if f.chen == 1 && f.next_address % 2 == 1 {
+/// How a command will end as far as that is settled before its data is looked at; `first` is the number
+/// of its first sector.
+fn early_ending(bounds: &Bounds, drive: Drive, f: &Fields, first: u64) -> Ending {
+    let code = if f.chen == 1 && f.next_address % 2 == 1 {
         0x1E
     } else if f.command > READ_DATA || (f.sgm == 1 && f.command == 0) || f.subfunction != 0 {
         0x14
@@ -135,12 +165,22 @@ fn early_code(bounds: &Bounds, drive: Drive, f: &Fields, first: u64) -> u8 {
     } else if f.sector > maximum_on(drive, f.head) {
         0x12
     } else if !bounds.hold_sectors(first, f.count) {
-        0x10
+        return Ending::past_an_end(0x10, bounds.sectors_from(first));
     // no branch on the command: reads and writes often take turns
     } else if (f.command == WRITE_DATA) & bounds.protected {
         0x90
     } else {
         0x00
+    };
+    code.into()
+}
+
+/// How a transfer without a link list will end, by where its data lies.
+fn plain_ending(bounds: &Bounds, f: &Fields) -> Ending {
+    if bounds.hold_data(f.data_address, f.count) {
+        Ending::from(0x00)
+    } else {
+        Ending::past_an_end(0x4B, bounds.sectors_at(f.data_address))
     }
 }
 
@@ -196,6 +236,8 @@ const BLANK: Record = Record {
     count: 0,
     byte0: 0,
     code: 0,
+    fitted: 0,
+    unused: 0,
     list: [Link { address: 0, length: 0, unused: 0 }; lists::MOST_LINKS],
 };
 
@@ -212,12 +254,12 @@ fn fill(memory: &[u8], bounds: &Bounds, drive: Drive, at: u32, r: &mut Record) {
     r.sector = first as u32;
     r.count = f.count;
     r.byte0 = bytes[0];
-    r.code = early_code(bounds, drive, &f, first);
+    Ending { code: r.code, fitted: r.fitted } = early_ending(bounds, drive, &f, first);
     if r.code != 0 || f.command == 0 {
         return;
     }
     if f.sgm == 0 {
-        r.code = if bounds.hold_data(f.data_address, f.count) { 0x00 } else { 0x4B };
+        Ending { code: r.code, fitted: r.fitted } = plain_ending(bounds, &f);
         return;
     }
     let elements = lists::elements(bytes[6]);
@@ -225,7 +267,7 @@ fn fill(memory: &[u8], bounds: &Bounds, drive: Drive, at: u32, r: &mut Record) {
         r.code = 0x4B;
         return;
     }
-    r.ranges = elements as u32;
+    r.ranges = elements as u16;
     r.code = list_code(bounds, &r.list[..elements], f.count);
 }
 
@@ -451,7 +493,7 @@ fn close(memory: &mut [u8], drive: Drive, r: &Record) {
         let errs = if r.code == 0 { 0 } else { 0x80 };
         let byte2 = if drive.protected { 0x13 } else { 0x03 };
         // as one number, so that it is one store
-        let posted = u32::from_le_bytes([r.byte0 & 0x7F | 0x40 | errs, r.code, byte2, 0]);
+        let posted = u32::from_le_bytes([r.byte0 & 0x7F | 0x40 | errs, r.code, byte2, r.fitted]);
         let status = r.iopb as usize;
         memory[status..status + 4].copy_from_slice(&posted.to_le_bytes());
     }
@@ -586,6 +628,11 @@ pub fn place(drive: Drive, sector: u32) -> Placed {
         sector: (on_cylinder % per_track(drive)) as u8,
     };
     Placed { place, number: 0 }
+}
+
+pub fn chain_steps(table: &[Record], commands: usize) -> u64 {
+    let in_use = table.iter().take(commands.min(MOST_COMMANDS));
+    in_use.map(|record| u64::from(steps(record))).sum()
 }
 
 pub fn view_number(memory: &[u8], at: u32) -> u8 {

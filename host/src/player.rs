@@ -1,10 +1,9 @@
-//! Plays cases in the format of docs/CASES.md over the archive, and prints what that page says.
-//! The state, the lines that set it and the text of the answers are the second program's; every
-//! call on the board is the archive's. A `deck` is no call on the board: `decks` has it played.
+//! Plays cases in the format of docs/CASES.md over the archive, or over another board, and prints what
+//! that page says. The state, the lines that set it and the text of the answers are the second program's;
+//! every call is the board's. A `deck` is no call on the board: `decks` has it played.
 
-use crate::archive;
-use crate::declared::{Ran, Record};
-use crate::field;
+use crate::boards::{Board, ARCHIVE};
+use crate::declared::{Drive, Ran, Record};
 use crate::translate::{drive_of, record_of, second_fields_of, second_place_of, second_record_of};
 use second::run::{PicksReply, WrittenReply};
 use second::trial::answer::Answer;
@@ -16,9 +15,19 @@ use std::io::{BufRead, Write};
 /// The calls that are not lent use the first 32 records.
 const BY_VALUE: usize = 32;
 
-/// Plays every line and prints what it answers; the error says which line it was and why.
-pub fn play_cases(input: impl BufRead, mut out: impl Write) -> Result<(), String> {
-    let mut player = Player::default();
+/// Plays every line over the archive and prints what it answers; the error says which line it was and
+/// why.
+pub fn play_cases(input: impl BufRead, out: impl Write) -> Result<(), String> {
+    play_cases_on(&ARCHIVE, input, out)
+}
+
+/// The same, over any board.
+pub fn play_cases_on(
+    board: &Board,
+    input: impl BufRead,
+    mut out: impl Write,
+) -> Result<(), String> {
+    let mut player = Player { board, state: State::default() };
     for (number, text) in input.lines().enumerate() {
         let at = |error: String| format!("line {}: {error}", number + 1);
         let text = text.map_err(|error| at(error.to_string()))?;
@@ -29,12 +38,12 @@ pub fn play_cases(input: impl BufRead, mut out: impl Write) -> Result<(), String
     out.flush().map_err(|error| error.to_string())
 }
 
-#[derive(Default)]
-struct Player {
+struct Player<'a> {
+    board: &'a Board,
     state: State,
 }
 
-impl Player {
+impl Player<'_> {
     /// Plays one line. Beside the page's lines it takes `lentpicks` and `lentwritten`: the runs,
     /// by the lent table of the state's length.
     fn play(&mut self, text: &str) -> Result<Vec<String>, String> {
@@ -63,16 +72,16 @@ impl Player {
             Line::Place(sector) => self.place(*sector as u32),
             Line::Fields(at) => self.fields(*at as u32),
             Line::View(at) => self.view(*at as u32),
-            Line::Deck(_) => return Err("a deck is for the bench, and not for the archive".into()),
+            Line::Deck(_) => return Err("a deck is for the bench, and not for a board".into()),
             other => return self.state.play(other),
         })
     }
 
-    /// Calls the archive over the state's own memory, image and first records.
+    /// Calls the board over the state's own memory, image and first records.
     fn over_table<R>(
         &mut self,
         records: usize,
-        call: impl FnOnce(&mut [u8], &mut [u8], crate::declared::Drive, &mut [Record], usize) -> R,
+        call: impl FnOnce(&mut [u8], &mut [u8], Drive, &mut [Record], usize) -> R,
     ) -> R {
         let state = &mut self.state;
         let drive = drive_of(&state.board.drive);
@@ -89,8 +98,9 @@ impl Player {
     }
 
     fn walk(&mut self, word: &'static str, records: usize, start: u64) -> Answer {
+        let walk = self.board.walk;
         let walked = self.over_table(records, |memory, image, drive, table, _| {
-            archive::walk(memory, image, drive, start as u32, table)
+            walk(memory, image, drive, start as u32, table)
         });
         let (number, commands) = (walked.number, walked.commands as u64);
         self.state.commands = commands;
@@ -98,65 +108,66 @@ impl Player {
     }
 
     fn pick(&mut self, word: &'static str, records: usize, place: u64) -> Answer {
+        let pick = self.board.pick;
         let number = self.over_table(records, |memory, image, drive, table, commands| {
-            archive::pick(memory, image, drive, table, commands, place as usize)
+            pick(memory, image, drive, table, commands, place as usize)
         });
         Answer::Pick { word, number }
     }
 
     fn picks(&mut self, records: usize, picks: &[u8]) -> Answer {
+        let run = self.board.run_picks;
         let ran = self.over_table(records, |memory, image, drive, table, commands| {
-            archive::run_picks(memory, image, drive, table, commands, picks)
+            run(memory, image, drive, table, commands, picks)
         });
         let Ran { steps, refused, number, finished } = ran;
         Answer::Picks(PicksReply { number, steps, refused, finished, numbers: Vec::new() })
     }
 
     fn written(&mut self, records: usize, budget: u64) -> Answer {
+        let run = self.board.run_written;
         let ran = self.over_table(records, |memory, image, drive, table, commands| {
-            archive::run_written(memory, image, drive, table, commands, budget)
+            run(memory, image, drive, table, commands, budget)
         });
         let Ran { steps, number, finished, .. } = ran;
         Answer::Written(WrittenReply { number, steps, finished })
     }
 
     fn steps(&mut self, records: usize) -> Answer {
-        Answer::Steps(
-            self.over_table(records, |_, _, _, table, commands| {
-                archive::chain_steps(table, commands)
-            }),
-        )
+        let steps = self.board.chain_steps;
+        Answer::Steps(self.over_table(records, |_, _, _, table, commands| steps(table, commands)))
     }
 
     fn look(&self, sector: u32) -> Answer {
-        let board = &self.state.board;
-        let drive = drive_of(&board.drive);
+        let image = &self.state.board.image;
+        let drive = drive_of(&self.state.board.drive);
+        let part = (self.board.look_part)(image, drive, sector);
         Answer::Look {
-            number: archive::look_number(&board.image, drive, sector),
-            part: archive::look(&board.image, drive, sector).to_vec(),
+            number: (self.board.look_number)(image, drive, sector),
+            part: image[part.at..part.at + part.length].to_vec(),
         }
     }
 
     fn place(&self, sector: u32) -> Answer {
-        let placed = archive::place(drive_of(&self.state.board.drive), sector);
+        let placed = (self.board.place)(drive_of(&self.state.board.drive), sector);
         Answer::Place { number: placed.number, place: second_place_of(&placed.place) }
     }
 
-    /// The fields at any address. The archive's viewer takes even ones alone, so an odd one is
+    /// The fields at any address. A board's viewer takes even ones alone, so an odd one is
     /// viewed one byte earlier in the memory that begins one byte later.
     fn fields(&self, at: u32) -> Answer {
-        let memory = &self.state.board.memory;
+        let (memory, view) = (&self.state.board.memory, self.board.view);
         let fields = match at % 2 {
-            1 if memory.is_empty() => field::view(memory, at - 1),
-            1 => field::view(&memory[1..], at - 1),
-            _ => field::view(memory, at),
+            1 if memory.is_empty() => view(memory, at - 1),
+            1 => view(&memory[1..], at - 1),
+            _ => view(memory, at),
         };
         Answer::Fields(second_fields_of(&fields))
     }
 
     fn view(&self, at: u32) -> Answer {
         let memory = &self.state.board.memory;
-        let fields = second_fields_of(&field::view(memory, at));
-        Answer::View { number: field::view_number(memory, at), fields }
+        let fields = second_fields_of(&(self.board.view)(memory, at));
+        Answer::View { number: (self.board.view_number)(memory, at), fields }
     }
 }

@@ -58,6 +58,8 @@ pub fn record_of(record: &second::record::Record) -> Record {
         count: record.count,
         byte0: record.byte0,
         code: record.code,
+        fitted: record.fitted,
+        unused: record.unused_byte,
         list: from_fn(|k| link_of(record.list[k], record.unused[k])),
     }
 }
@@ -73,6 +75,8 @@ pub fn second_record_of(record: &Record) -> second::record::Record {
         byte0: record.byte0,
         code: record.code,
         ranges: record.ranges,
+        fitted: record.fitted,
+        unused_byte: record.unused,
         list: record.list.map(second_range_of),
         unused: record.list.map(|link| link.unused),
     }

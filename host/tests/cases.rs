@@ -1,6 +1,8 @@
 //! Cases in the format of docs/CASES.md, played over the archive and by the second program: every
 //! line printed must be the same.
 
+use host::archive;
+use host::declared::Drive;
 use host::player::play_cases;
 use second::makers::cases::random_case;
 use second::trial::stream::run_cases;
@@ -97,6 +99,16 @@ fn places_on_a_shorter_last_head() {
     assert_eq!(given.expect("cases").lines().collect::<Vec<_>>(), right);
 }
 
+/// What the wrapper's look hands back is no copy; of a sector that is not there it is empty.
+#[test]
+fn a_look_hands_back_the_image_itself() {
+    let drive = Drive { sector: 1, last_sector: 1, ..Drive::default() };
+    let image: Vec<u8> = (0..1_024).map(|at| (at / 512) as u8).collect();
+    let part = archive::look(&image, drive, 1);
+    assert_eq!((part.as_ptr(), part.len()), (image[512..].as_ptr(), 512));
+    assert!(archive::look(&image, drive, 2).is_empty());
+}
+
 #[test]
 fn a_line_outside_the_format_is_named() {
     let error = by_archive("case 1\nwalk 0\nwalks 0\n").expect_err("no line has the word walks");
@@ -104,9 +116,16 @@ fn a_line_outside_the_format_is_named() {
     // as it was before the last head had a maximum of its own
     let error = by_archive("case 1\ndrive 0 0 1 0\n").expect_err("a drive has five numbers");
     assert!(error.starts_with("line 2: "), "{error}");
-    // as it was before a record had ranges
-    let error =
-        by_archive("case 1\nrecord 0 0 0 0 0 0 0 0\n").expect_err("a record line has nine numbers");
+    // as it was before a record had ranges, and before it said how many sectors would have fitted
+    for short in ["record 0 0 0 0 0 0 0 0", "record 0 0 0 0 0 0 0 0 0"] {
+        let error =
+            by_archive(&format!("case 1\n{short}\n")).expect_err("a record line has ten numbers");
+        assert!(error.starts_with("line 2: "), "{error}");
+    }
+    // and as it was while the number of ranges had 32 bits
+    let error = by_archive("case 1\nspoil 0 7 65536\n").expect_err("ranges have 16 bits");
+    assert!(error.starts_with("line 2: "), "{error}");
+    let error = by_archive("case 1\nspoil 0 8 256\n").expect_err("what fitted is one byte");
     assert!(error.starts_with("line 2: "), "{error}");
     let error = by_archive("case 1\nrange 0 32 0 0\n").expect_err("a record has 32 ranges");
     assert!(error.starts_with("line 2: "), "{error}");

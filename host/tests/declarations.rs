@@ -58,7 +58,9 @@ fn a_changed_declaration_is_found() {
         ("uint16_t count;", "uint32_t count;"),
         ("uint32_t address;", "uint32_t data;"),
         ("    uint8_t byte0;", ""),
-        ("    uint32_t ranges;", ""),
+        ("    uint16_t ranges;", "    uint32_t ranges;"),
+        ("    uint8_t fitted;", ""),
+        ("    uint8_t unused;", "    uint16_t unused;"),
         ("    uint16_t length;", "    uint32_t length;"),
         (
             "rosadenca_link list[ROSADENCA_MOST_LINKS];",
@@ -144,6 +146,8 @@ fn assertions() -> String {
         (count, "count"),
         (byte0, "byte0"),
         (code, "code"),
+        (fitted, "fitted"),
+        (unused, "unused"),
         (list, "list")
     );
     layout!(text, Walked, "rosadenca_walked", (number, "number"), (commands, "commands"));

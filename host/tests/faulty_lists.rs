@@ -144,7 +144,7 @@ fn a_list_looked_up_again_is_found() {
         "takes 8 bits of the number of ranges",
         Board {
             run_written: |memory, image, drive, table, commands, budget| {
-                let right: Vec<u32> = table.iter().map(|record| record.ranges).collect();
+                let right: Vec<u16> = table.iter().map(|record| record.ranges).collect();
                 table.iter_mut().for_each(|record| record.ranges &= 0xFF);
                 let ran = (ORDINARY.run_written)(memory, image, drive, table, commands, budget);
                 let records = table.iter_mut().zip(right);

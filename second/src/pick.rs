@@ -82,13 +82,14 @@ fn move_sector(board: &mut Board, record: &Record) {
     }
 }
 
-/// Writes the four status bytes. Byte 0 is built from the copied byte, since
-/// data may have come to lie over the IOPB in the meantime.
+/// Writes the four status bytes. All are made from the record, since data may
+/// have come to lie over the IOPB in the meantime; so is byte 3, whatever the
+/// code.
 fn close(board: &mut Board, record: &Record) {
     let errs = if record.code == 0 { 0 } else { ERRS };
     let first = record.iopb as usize;
     board.memory[first] = (record.byte0 & !ERRS) | DONE | errs;
     board.memory[first + 1] = record.code;
     board.memory[first + 2] = if board.drive.protected { 0x13 } else { 0x03 };
-    board.memory[first + 3] = 0x00;
+    board.memory[first + 3] = record.fitted;
 }

@@ -10,8 +10,8 @@ use std::collections::BTreeSet;
 /// The most commands that a table may have.
 pub const MOST_COMMANDS: u64 = 32;
 
-/// What the walk copies from one IOPB and its link list, its code, and the
-/// steps taken so far.
+/// What the walk copies from one IOPB and its link list, its code, how many
+/// sectors would have fitted, and the steps taken so far.
 #[derive(Clone, Copy, Debug, Default, PartialEq, Eq)]
 pub struct Record {
     pub iopb: u32,
@@ -23,7 +23,12 @@ pub struct Record {
     pub code: u8,
     /// How many ranges the list has; 0 where the command has no list. A table
     /// made by hand may claim more than there is room for.
-    pub ranges: u32,
+    pub ranges: u16,
+    /// How many sectors would have fitted: the close posts it as it stands. A
+    /// table made by hand may hold any number with any code.
+    pub fitted: u8,
+    /// A byte that no one looks at, for the digest like those below.
+    pub unused_byte: u8,
     pub list: [Range; MOST_ELEMENTS as usize],
     /// Two bytes beside each range that no one looks at: 0 after a walk. They
     /// are here for the digest, so that a board which fills them is found out.
@@ -104,7 +109,8 @@ pub enum Cause {
 }
 
 /// Every cause of number 9 in the table; number 9 is given exactly where
-/// there is one. Only records in use are looked at.
+/// there is one. Only records in use are looked at, and of none how many
+/// sectors would have fitted.
 pub fn causes(board: &Board, table: &[Record], commands: u64) -> BTreeSet<Cause> {
     let mut found = BTreeSet::new();
     if commands > MOST_COMMANDS {

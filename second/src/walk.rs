@@ -79,7 +79,9 @@ fn record_of(board: &Board, address: u64, fields: &Fields) -> Record {
         count: fields.count as u16,
         byte0: board.memory[address as usize],
         code: found.code,
-        ranges: found.list.len() as u32,
+        ranges: found.list.len() as u16,
+        fitted: found.fitted,
+        unused_byte: 0,
         list,
         unused: [0; MOST_ELEMENTS as usize],
     }

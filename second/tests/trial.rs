@@ -59,18 +59,20 @@ fn lines_outside_the_format_are_refused() {
         "place",
         "place 1 2",
         "place 4294967296",
-        "record 40 0 0 0 0 0 0 0 0",
-        "record 0 0 0 0 0 0 0 0",
-        "record 0 0 0 0 0 0 0 0 0 0",
-        "record 0 0 0 0 0 0 0 0 4294967296",
+        "record 40 0 0 0 0 0 0 0 0 0",
+        "record 0 0 0 0 0 0 0 0 0",
+        "record 0 0 0 0 0 0 0 0 0 0 0",
+        "record 0 0 0 0 0 0 0 0 65536 0",
+        "record 0 0 0 0 0 0 0 0 0 256",
         "range 40 0 0 0",
         "range 0 32 0 0",
         "range 0 0 4294967296 0",
         "range 0 0 0 65536",
         "range 0 0 0",
         "range 0 0 0 0 0",
-        "spoil 0 8 0",
-        "spoil 0 7 4294967296",
+        "spoil 0 9 0",
+        "spoil 0 8 256",
+        "spoil 0 7 65536",
         "spoil 0 4 65536",
         "spoil 0 5 256",
         "commands 4294967296",
@@ -152,7 +154,7 @@ put 0 18 0 0 0 0 0 16 0 0 1 0 0 0 1 0 0 0 0 0 64
 put 64 0 100 229 214 0 0 2 0 1 156 229 214 0 0 1 0
 walk 0
 pick 0
-record 1 32 64 1 0 1 2 0 2
+record 1 32 64 1 0 1 2 0 2 0
 range 1 0 512 100
 range 1 1 256 411
 commands 2
@@ -162,10 +164,33 @@ pick 1
 ";
 
 const LIST_ANSWERS: &str = "case 2
-walk 0 1 b22d0ee7 ce2459c5 dcdea247
-pick 0 15d0ad0c ce2459c5 99e6ce1a
-pick 9 15d0ad0c ce2459c5 76056061
-pick 0 4f187459 ce2459c5 01e2035f
+walk 0 1 b22d0ee7 ce2459c5 f1f39bb7
+pick 0 15d0ad0c ce2459c5 aefbc78a
+pick 9 15d0ad0c ce2459c5 86c6d941
+pick 0 4f187459 ce2459c5 12a37c3f
+";
+
+const FITTED_CASE: &str = "case 3
+drive 0 0 1 1 0
+memory 1024 0 0
+image 1024 7 1 0
+put 0 2 0 0 9 0 0 0 0 0 2 0 0 0 1 0 0 0 0 2 0
+walk 0
+put 8 0 1
+pick 0
+fields 0
+record 1 32 512 1 0 1 2 0 0 77
+commands 2
+pick 1
+fields 32
+";
+
+const FITTED_ANSWERS: &str = "case 3
+walk 0 1 017e8575 743661c5 75295b7b
+pick 0 db8b261d 743661c5 3231874e
+fields 1 1 0 0 2 16 0 1 1 1 0 0 1 0 0 1 512 0
+pick 0 9ee1d1b1 743661c5 1e168c18
+fields 0 1 0 0 2 0 0 1 1 77 0 0 0 0 0 0 0 0
 ";
 
 /// What a run of cases prints.
@@ -179,17 +204,19 @@ fn played(cases: &str) -> String {
 fn the_worked_cases() {
     assert_eq!(played(WORKED_CASE), WORKED_ANSWERS);
     assert_eq!(played(LIST_CASE), LIST_ANSWERS);
+    assert_eq!(played(FITTED_CASE), FITTED_ANSWERS);
 }
 
 /// A range line sets one range alone, and a record line sets all to 0. The
 /// digests were worked out apart from this program.
 #[test]
 fn ranges_in_the_digest() {
-    let ground = "case 1\ndrive 0 0 0 0 0\nimage 512 0 0 0\nrecord 1 1 2 3 4 5 6 7 8\n";
+    let ground = "case 1\ndrive 0 0 0 0 0\nimage 512 0 0 0\nrecord 1 1 2 3 4 5 6 7 8 9\n";
     let ranges = "range 1 0 9 10\nrange 1 31 4294967295 65535\npick 0\n";
-    let more = "spoil 1 7 4294967295\npick 0\nrecord 1 1 2 3 4 5 6 7 8\npick 0\n";
-    let answers = played(&format!("{ground}{ranges}{more}"));
+    let more = "spoil 1 7 65535\npick 0\nspoil 1 8 255\npick 0\n";
+    let again = "record 1 1 2 3 4 5 6 7 8 9\npick 0\n";
+    let answers = played(&format!("{ground}{ranges}{more}{again}"));
     let tables: Vec<&str> =
         answers.lines().skip(1).filter_map(|line| line.split(' ').last()).collect();
-    assert_eq!(tables, ["9fa81282", "7c0ff392", "9a61f8cd"]);
+    assert_eq!(tables, ["48d9c633", "b193387f", "9b35fae5", "4393ac7e"]);
 }

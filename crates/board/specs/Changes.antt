@@ -29,6 +29,8 @@ withTaken n r =
       count = r .count;
       byte0 = r .byte0;
       code = r .code;
+      fitted = r .fitted;
+      unused = r .unused;
       list = r .list;
     }
 

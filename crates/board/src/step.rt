@@ -120,7 +120,7 @@ fn move_pieces(
     reading: bool,
     disk: usize,
     list: [Link; 32],
-    n: u32,
+    n: u16,
     lo: usize,
     hi: usize,
 )

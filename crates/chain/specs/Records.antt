@@ -5,9 +5,9 @@ use lib.ListN.{length, take, drop}
 use Rattle.meaning.specs.declared.Drive.{Drive}
 use Rattle.meaning.specs.declared.Record.{Record}
 use Rattle.meaning.specs.Links.{noLinks}
-use Rattle.meaning.specs.Code.{copiedAt, earlyCode, firstSector}
+use Rattle.meaning.specs.Code.{copiedAt, firstSector}
 use Rattle.meaning.specs.Walk.{recordOf}
-use Rattle.chain.specs.Coding.{lateCode}
+use Rattle.chain.specs.Coding.{verdictOf, earlyRows, lateVerdict}
 
 -- the record of the IOPB at an address
 abbrev pub recordAt : List ℕ → Drive → ℕ → Record
@@ -15,9 +15,10 @@ recordAt m d a = recordOf (copiedAt m a) a d m
 
 -- the same with no list
 unfoldable pub plainRecordAt : List ℕ → Drive → ℕ → Record
-unfolding copiedAt earlyCode lateCode
+unfolding copiedAt verdictOf lateVerdict
 plainRecordAt m d a =
     let c = copiedAt m a in
+    let verdict = lateVerdict c (verdictOf (earlyRows c d)) (length m) [] 0 in
     record {
       iopb = a;
       address = c .address;
@@ -26,7 +27,9 @@ plainRecordAt m d a =
       ranges = 0;
       count = c .count;
       byte0 = c .byte0;
-      code = lateCode c (earlyCode c d) (length m) [] 0;
+      code = verdict .code;
+      fitted = verdict .fitted;
+      unused = 0;
       list = noLinks;
     }
 

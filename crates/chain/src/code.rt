@@ -1,18 +1,34 @@
-// What the walk copies from an IOPB, and the code that its command will get: first what every command is asked, then what only a
-// transfer is asked, then what its data is asked. The first row that applies gives the code.
+// What the walk copies from an IOPB, and what it fixes of its command: the code that it will get, and how many sectors would have fitted.
+// First comes what every command is asked, then what only a transfer is asked, then what its data is asked; the first row that applies
+// decides.
 use crate::links;
 use meaning::Copied;
 use meaning::Drive;
+use meaning::End;
 use meaning::Link;
 ghost use mathlib.Core.Path.{_≡_};
-ghost use Prim.Native.Nat.{_+_, _*_};
+ghost use Prim.Native.Nat.{_*_};
 ghost use mathlib.Core.Bool.{not, _&&_, _||_};
 ghost use lib.Dec.{ltb, eqb};
-ghost use Rattle.meaning.specs.First.{firstOf};
-ghost use Rattle.meaning.specs.Sectors.{sectorBytes, maximumOn, sectorCount};
+ghost use Rattle.meaning.specs.Sectors.{sectorBytes, maximumOn};
+ghost use Rattle.meaning.specs.Ranges.{bytes};
+ghost use Rattle.meaning.specs.Ends.{driveEnd, memoryEnd};
 ghost use lib.ListN.{take};
-ghost use Rattle.meaning.specs.Code.{copiedAt, earlyCode, linkCount, transferRows, chained, odd, gathers, commandIn, nop, read, write, firstSector};
-ghost use Rattle.chain.specs.Coding.{toRead, plainCode, listCode, lateCode};
+ghost use Rattle.meaning.specs.Code.{copiedAt, linkCount, transferRows, chained, odd, gathers, commandIn, nop, read, write, firstSector};
+ghost use Rattle.chain.specs.Coding.{toRead, fixedAs, verdictOf, earlyRows, plainRows, listCode, lateVerdict};
+
+// What the walk fixes of a command: its code, and how many sectors would have fitted.
+pub struct Verdict {
+    pub code: u8,
+    pub fitted: u8,
+}
+
+// Both as one.
+fn fixed(code: u8, fitted: u8) -> Verdict
+    ensures { λ v. ⌜ v ≡ fixedAs code fitted ⌝ }
+{
+    Verdict { code, fitted }
+}
 
 // The fields of an IOPB that the walk keeps.
 fn fields_of(memory: &[u8], at: u32) -> Copied
@@ -89,11 +105,11 @@ fn sector_above(c: Copied, d: Drive) -> bool
     drive::above(drive::maximum_on(d, c.head), c.sector as u32)
 }
 
-// The first sector number + count is more than the drive has.
-fn past_drive(c: Copied, d: Drive) -> bool
-    ensures { λ r. ⌜ r ≡ ltb (sectorCount d) (firstSector d c + c .count) ⌝ }
+// The test for the end of the drive: of the command's sectors.
+fn drive_end(c: Copied, d: Drive) -> End
+    ensures { λ r. ⌜ r ≡ driveEnd d (firstSector d c) (c .count) ⌝ }
 {
-    drive::past_end(drive::sectors(d), first_sector(c, d), c.count)
+    ends::drive_end(d, first_sector(c, d), c.count)
 }
 
 // Write Data and the drive is protected.
@@ -103,69 +119,70 @@ fn forbidden(c: Copied, d: Drive) -> bool
     (c.byte0 % 16 == 1) & d.protected
 }
 
-// The data address + 512 x count is past the end of memory.
-fn past_memory(c: Copied, memory: u64) -> bool
-    ensures { λ r. ⌜ r ≡ ltb memory (c .address + sectorBytes * c .count) ⌝ }
+// The test for the end of memory: of the 512 x count bytes from the data address on.
+fn memory_end(c: Copied, memory: u64) -> End
+    ensures { λ r. ⌜ r ≡ memoryEnd memory (bytes (c .address) (sectorBytes * c .count)) ⌝ }
 {
-    let end = c.address as u64 + drive::SECTOR_BYTES * c.count as u64;
-    memory < end
+    let many = drive::SECTOR_BYTES as u32 * c.count as u32;
+    ends::memory_end(memory, c.address, many)
 }
 
-// The code of a transfer, before its data is looked at.
-fn transfer_code(c: Copied, d: Drive) -> u8
-    ensures { λ r. ⌜ r ≡ firstOf (transferRows c d) 0 ⌝ }
+// What is fixed of a transfer, before its data is looked at.
+fn transfer_verdict(c: Copied, d: Drive) -> Verdict
+    ensures { λ v. ⌜ v ≡ verdictOf (transferRows c d) ⌝ }
 {
     if c.unit != 0 {
-        return 0x42;
+        return fixed(0x42, 0);
     }
     if c.count == 0 {
-        return 0x13;
+        return fixed(0x13, 0);
     }
     if d.cylinder < c.cylinder {
-        return 0x10;
+        return fixed(0x10, 0);
     }
     if d.head < c.head {
-        return 0x11;
+        return fixed(0x11, 0);
     }
     if sector_above(c, d) {
-        return 0x12;
+        return fixed(0x12, 0);
     }
-    if past_drive(c, d) {
-        return 0x10;
+    let end = drive_end(c, d);
+    if end.past {
+        return fixed(0x10, ends::as_byte(end.fitted));
     }
     if forbidden(c, d) {
-        return 0x90;
+        return fixed(0x90, 0);
     }
-    0x00
+    fixed(0x00, 0)
 }
 
-// The code of a command by the rows that do not look at its data: what every command is asked, and then what a transfer is asked.
-pub(crate) fn early_code(c: Copied, d: Drive) -> u8
-    ensures { λ r. ⌜ r ≡ earlyCode c d ⌝ }
+// What is fixed of a command by the rows that do not look at its data: what every command is asked, and then what a transfer is asked.
+pub(crate) fn early_verdict(c: Copied, d: Drive) -> Verdict
+    ensures { λ v. ⌜ v ≡ verdictOf (earlyRows c d) ⌝ }
 {
     if misaligned(c) {
-        return 0x1E;
+        return fixed(0x1E, 0);
     }
     if unimplemented(c) {
-        return 0x14;
+        return fixed(0x14, 0);
     }
     if c.byte0 % 16 == 0 {
-        return 0x00;
+        return fixed(0x00, 0);
     }
-    transfer_code(c, d)
+    transfer_verdict(c, d)
 }
 
 // How many elements the link list has: bits 7-3 of byte 6, where 0 means 32.
-fn link_count(c: Copied) -> u32
+fn link_count(c: Copied) -> u16
     ensures { λ n. ⌜ n ≡ linkCount c ⌝ }
 {
     let n = c.byte6 / 8 % 32;
-    if n == 0 { links::MOST_LINKS } else { n as u32 }
+    if n == 0 { links::MOST_LINKS } else { n as u16 }
 }
 
 // How many elements the walk reads of a command with this code so far: none where it has a code already, or no list, or one that is not
 // all in a memory of so many bytes.
-pub(crate) fn links_to_read(c: Copied, early: u8, memory: u64) -> u32
+pub(crate) fn links_to_read(c: Copied, early: u8, memory: u64) -> u16
     ensures { λ n. ⌜ n ≡ toRead c early memory ⌝ }
 {
     if early != 0 {
@@ -181,24 +198,26 @@ pub(crate) fn links_to_read(c: Copied, early: u8, memory: u64) -> u32
     n
 }
 
-// The code of a command without a list that was read, by its data: a No Operation has none; a list that was not read lies outside memory.
-fn plain_code(c: Copied, memory: u64) -> u8
-    ensures { λ r. ⌜ r ≡ plainCode c memory ⌝ }
+// What is fixed of a command without a list that was read, by its data: a No Operation has none; a list that was not read lies outside
+// memory, and nothing is told of it.
+fn plain_verdict(c: Copied, memory: u64) -> Verdict
+    ensures { λ v. ⌜ v ≡ verdictOf (plainRows c memory) ⌝ }
 {
     if c.byte0 % 16 == 0 {
-        return 0x00;
+        return fixed(0x00, 0);
     }
     if has_list(c) {
-        return 0x4B;
+        return fixed(0x4B, 0);
     }
-    if past_memory(c, memory) {
-        return 0x4B;
+    let end = memory_end(c, memory);
+    if end.past {
+        return fixed(0x4B, ends::as_byte(end.fitted));
     }
-    0x00
+    fixed(0x00, 0)
 }
 
 // The code of a transfer by the first n ranges of its list, which was read.
-fn list_code(count: u16, memory: u64, list: [Link; 32], n: u32) -> u8
+fn list_code(count: u16, memory: u64, list: [Link; 32], n: u16) -> u8
     ensures { λ r. ⌜ r ≡ listCode count memory (take n list) ⌝ }
 {
     if links::bytes_in(list, n) != drive::SECTOR_BYTES as u32 * count as u32 {
@@ -213,16 +232,22 @@ fn list_code(count: u16, memory: u64, list: [Link; 32], n: u32) -> u8
     0x00
 }
 
-// The code that a command will get: the early one, and then what its data is asked. The first n elements of the list are those that the
-// walk read; memory is its length.
-pub(crate) fn code(c: Copied, early: u8, memory: u64, list: [Link; 32], n: u32) -> u8
-    ensures { λ r. ⌜ r ≡ lateCode c early memory (take n list) n ⌝ }
+// What is fixed of a command: what came early, and then what its data is asked. The first n elements of the list are those that the walk
+// read; of a command with a list nothing is told here. memory is its length.
+pub(crate) fn final_verdict(
+    c: Copied,
+    early: Verdict,
+    memory: u64,
+    list: [Link; 32],
+    n: u16,
+) -> Verdict
+    ensures { λ v. ⌜ v ≡ lateVerdict c early memory (take n list) n ⌝ }
 {
-    if early != 0 {
+    if early.code != 0 {
         return early;
     }
     if n == 0 {
-        return plain_code(c, memory);
+        return plain_verdict(c, memory);
     }
-    list_code(c.count, memory, list, n)
+    fixed(list_code(c.count, memory, list, n), 0)
 }

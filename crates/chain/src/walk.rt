@@ -33,10 +33,11 @@ pub struct Found {
 fn record_of(memory: &[u8], c: Copied, at: u32, d: Drive) -> Record
     ensures { λ r. ⌜ r ≡ recordOf c at d (now (memory .entry)) ⌝ }
 {
-    let early = code::early_code(c, d);
+    let early = code::early_verdict(c, d);
     let length = memory.len() as u64;
-    let ranges = code::links_to_read(c, early, length);
+    let ranges = code::links_to_read(c, early.code, length);
     let list = links::links_at(memory, c.address as usize, ranges as usize);
+    let verdict = code::final_verdict(c, early, length, list, ranges);
     Record {
         iopb: at,
         address: c.address,
@@ -45,7 +46,9 @@ fn record_of(memory: &[u8], c: Copied, at: u32, d: Drive) -> Record
         ranges,
         count: c.count,
         byte0: c.byte0,
-        code: code::code(c, early, length, list, ranges),
+        code: verdict.code,
+        fitted: verdict.fitted,
+        unused: 0,
         list,
     }
 }
@@ -173,7 +176,8 @@ pub fn plain_record_at(memory: &[u8], d: Drive, at: u32) -> Record
 {
     let list = links::no_links();
     let c = code::copied(memory, at);
-    let early = code::early_code(c, d);
+    let early = code::early_verdict(c, d);
+    let verdict = code::final_verdict(c, early, memory.len() as u64, list, 0);
     Record {
         iopb: at,
         address: c.address,
@@ -182,7 +186,9 @@ pub fn plain_record_at(memory: &[u8], d: Drive, at: u32) -> Record
         ranges: 0,
         count: c.count,
         byte0: c.byte0,
-        code: code::code(c, early, memory.len() as u64, list, 0),
+        code: verdict.code,
+        fitted: verdict.fitted,
+        unused: 0,
         list,
     }
 }

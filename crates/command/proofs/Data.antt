@@ -15,7 +15,8 @@ use Rattle.meaning.specs.Store.{Store, memory}
 use Rattle.meaning.specs.Sizes.{storeWrong}
 use Rattle.meaning.specs.Each.{someOf}
 use Rattle.meaning.specs.Fields.{iopbBytes}
-use Rattle.meaning.specs.Sectors.{sectorBytes, sectorCount}
+use Rattle.meaning.specs.Sectors.{sectorBytes}
+use Rattle.meaning.specs.Ends.{driveEnd}
 use Rattle.meaning.specs.Ranges.{Range}
 use Rattle.meaning.specs.Links.{mostLinks, bytesIn}
 use Rattle.meaning.specs.Code.{outside}
@@ -94,8 +95,8 @@ module _ (d : Drive) (s : Store) (right : storeWrong d s ≡ false) (r : Record)
   unfolding badTransfer badMove
   by-parts moves =
       regroup (eqb (r .count) 0) (ltb mostLinks (r .ranges)) (someOf (outside n) (dataBytes r)) (not (eqb (bytesIn (dataBytes r)) (sectorBytes * r .count)))
-      (ltb (sectorCount d) (r .sector + r .count)) (writes r && d .protected)
-      ∙ ap (λ (b : Bool). eqb (r .count) 0 || (b || (ltb (sectorCount d) (r .sector + r .count) || writes r && d .protected))) (sym (by-hull n small r moves))
+      (driveEnd d (r .sector) (r .count) .past) (writes r && d .protected)
+      ∙ ap (λ (b : Bool). eqb (r .count) 0 || (b || (driveEnd d (r .sector) (r .count) .past || writes r && d .protected))) (sym (by-hull n small r moves))
 
   -- what is asked of a transfer is not asked of any other command
   if-moves : (b : Bool) → transfers r ≡ b → (b && badTransfer d s r) ≡ (b && badMove n d r)

@@ -6,7 +6,8 @@ use lib.Dec.{ltb, eqb}
 use Rattle.meaning.specs.declared.Drive.{Drive}
 use Rattle.meaning.specs.declared.Record.{Record}
 use Rattle.meaning.specs.Fields.{iopbBytes}
-use Rattle.meaning.specs.Sectors.{sectorBytes, sectorCount}
+use Rattle.meaning.specs.Sectors.{sectorBytes}
+use Rattle.meaning.specs.Ends.{driveEnd}
 use Rattle.meaning.specs.Links.{mostLinks}
 use Rattle.meaning.specs.Command.{writes, transfers, stepsOf}
 use Rattle.command.specs.Footprints.{dataHull}
@@ -19,7 +20,7 @@ badData n r =
 unfoldable pub badMove : ℕ → Drive → Record → Bool
 unfolding badData
 badMove n d r =
-    eqb (r .count) 0 || (badData n r || (ltb (sectorCount d) (r .sector + r .count) || writes r && d .protected))
+    eqb (r .count) 0 || (badData n r || (driveEnd d (r .sector) (r .count) .past || writes r && d .protected))
 
 -- of any record
 unfoldable pub badIn : ℕ → Drive → Record → Bool

@@ -1,4 +1,4 @@
-// The status bytes that a close posts, by the copied byte 0, the code and the drive (Step 5 to 9).
+// The status bytes that a close posts, by the copied byte 0, the code, what would have fitted and the drive (Step 5 to 9).
 use meaning::Drive;
 use meaning::Record;
 ghost use mathlib.Core.Path.{_≡_};
@@ -29,6 +29,13 @@ fn drive_status(d: Drive) -> u8
     if d.protected { 0x13 } else { 0x03 }
 }
 
+// Byte 3: how many sectors would have fitted, as the record has it, whatever the code.
+fn internal_status(r: Record) -> u8
+    ensures { λ b. ⌜ b ≡ r .fitted ⌝ }
+{
+    r.fitted
+}
+
 // What the close of a command posts.
 pub fn posted(d: Drive, r: Record) -> Status
     ensures { λ s. ⌜ (s .byte0 ∷ s .code ∷ s .drive ∷ s .internal ∷ []) ≡ step.closing d r ⌝ }
@@ -37,6 +44,6 @@ pub fn posted(d: Drive, r: Record) -> Status
         byte0: closing_byte0(r),
         code: r.code,
         drive: drive_status(d),
-        internal: 0,
+        internal: internal_status(r),
     }
 }

@@ -39,7 +39,7 @@ fn bad_transfer(memory: u64, d: Drive, r: Record, h: Hull) -> bool
     if bad_data(memory, r, h) {
         return true;
     }
-    if drive::past_end(drive::sectors(d), r.sector, r.count) {
+    if ends::drive_end(d, r.sector, r.count).past {
         return true;
     }
     if d.protected {

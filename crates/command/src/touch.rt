@@ -120,7 +120,7 @@ fn hull_with_link(h: Hull, x: Link) -> Hull
 }
 
 // The hull of the first n ranges of a list.
-fn list_hull(list: [Link; 32], n: u32) -> Hull
+fn list_hull(list: [Link; 32], n: u16) -> Hull
     ensures { λ h. ⌜ h ≡ hullOf (map rangeOf (take n list)) ⌝ }
 {
     let last = links::held(n);
@@ -250,7 +250,7 @@ fn link_meets(x: Link, a: u32, n: u32) -> bool
 }
 
 // n bytes from a on have one in common with some of the first m ranges of a list.
-fn list_meets(list: [Link; 32], m: u32, a: u32, n: u32) -> bool
+fn list_meets(list: [Link; 32], m: u16, a: u32, n: u32) -> bool
     ensures { λ b. ⌜ b ≡ someOf (λ x. overlap (bytes a n) (rangeOf x)) (take m list) ⌝ }
 {
     let last = links::held(m);
@@ -286,7 +286,7 @@ fn link_meets_data(r: Record, x: Link) -> bool
 }
 
 // Some of the first n ranges of a list have a byte in common with the data of a command.
-fn list_meets_data(list: [Link; 32], n: u32, r: Record) -> bool
+fn list_meets_data(list: [Link; 32], n: u16, r: Record) -> bool
     ensures { λ b. ⌜ b ≡ someOf (λ x. someOf (overlap (rangeOf x)) (movedData r)) (take n list) ⌝ }
 {
     let last = links::held(n);

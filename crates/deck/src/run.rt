@@ -27,6 +27,8 @@ fn empty_table() -> [Record; 32]
         count: 0,
         byte0: 0,
         code: 0,
+        fitted: 0,
+        unused: 0,
         list,
     };
     [none; 32]

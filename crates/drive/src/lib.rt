@@ -98,13 +98,6 @@ pub fn above(largest: Maximum, sector: u32) -> bool
     largest.0 < sector
 }
 
-// So many sectors from a first one on are more than there are.
-pub fn past_end(count: Count, first: u32, sectors: u16) -> bool
-    ensures { λ r. ⌜ r ≡ ltb (count .0) (first + sectors) ⌝ }
-{
-    count.0 < first as u64 + sectors as u64
-}
-
 // The number of a sector, from its cylinder, head and sector; defined also where one of them is above its maximum.
 pub fn sector_number(d: Drive, cylinder: u16, head: u8, sector: u8) -> u32
     ensures { λ r. ⌜ r ≡ sectorNumber d cylinder head sector ⌝ }

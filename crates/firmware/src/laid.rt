@@ -38,6 +38,8 @@ pub(crate) fn blank() -> [Record; 32]
         count: 0,
         byte0: 0,
         code: 0,
+        fitted: 0,
+        unused: 0,
         list,
     };
     [none; 32]

@@ -10,7 +10,7 @@ use lib.Dec.{ltb, eqb}
 use borrow.Author.Tests.{ltb-false, le-ltb, leb-false, lt-leb, eq-eqb}
 use Rattle.meaning.specs.declared.Drive.{Drive}
 use Rattle.meaning.specs.declared.Record.{Record}
-use Rattle.meaning.specs.First.{Row, firstOf}
+use Rattle.meaning.specs.First.{Row, firstIn, firstOf}
 use Rattle.meaning.specs.Each.{someOf, everyOf}
 use Rattle.meaning.specs.State.{State, mostCommands}
 use Rattle.meaning.specs.Sizes.{storeWrong, sizesWrong}
@@ -58,10 +58,13 @@ rows-but N (r ∷ rows) z e h =
     go true e h = absurd (false≢true (rw (eq-eqb (r .gives) N e) at h))
     go false e h = (refl, e)
 
--- no row applies: the number is the last one
+-- no row applies: the number is the last one, in every column
+pub off-last-in : (column : Row → ℕ) (rows : List Row) (z : ℕ) → All Off rows → firstIn column rows z ≡ z
+off-last-in column [] z h = refl
+off-last-in column (r ∷ rows) z h = rw (h .0) (off-last-in column rows z (h .1))
+
 pub off-last : (rows : List Row) (z : ℕ) → All Off rows → firstOf rows z ≡ z
-off-last [] z h = refl
-off-last (r ∷ rows) z h = rw (h .0) (off-last rows z (h .1))
+off-last rows z h = off-last-in (λ r. r .gives) rows z h
 
 -- ---- 8, 7 and 6 are not given
 

@@ -18,6 +18,34 @@ pub data Says (last : ℕ) : List Row → List Case → Type 1 where
       → Says last rows cases
       → Says last (b ↝ N ∷ rows) (P ⇒ N ∷ cases)
 
+-- Questions without numbers: tests, set beside what they mean. The same ones, with numbers, are rows and cases of more than one table: as the
+-- code's, whose rows give a code and tell a number beside it. A row with no number left gives 0.
+infixr 67 _and_
+pub data Asked : List Bool → List (Type 0) → Type 1 where
+  no-more : Asked [] []
+  _and_ : {P : Type 0} {b : Bool} {tests : List Bool} {meanings : List (Type 0)}
+      → Means P b
+      → Asked tests meanings
+      → Asked (b ∷ tests) (P ∷ meanings)
+
+abbrev pub rowsWith : List Bool → List ℕ → List Row
+rowsWith [] ns = []
+rowsWith (b ∷ bs) [] = b ↝ 0 ∷ rowsWith bs []
+rowsWith (b ∷ bs) (n ∷ ns) = b ↝ n ∷ rowsWith bs ns
+
+abbrev pub casesWith : List (Type 0) → List ℕ → ℕ → List Case
+casesWith [] ns last = Otherwise ⇒ last ∷ []
+casesWith (P ∷ Ps) [] last = P ⇒ 0 ∷ casesWith Ps [] last
+casesWith (P ∷ Ps) (n ∷ ns) last = P ⇒ n ∷ casesWith Ps ns last
+
+pub with-numbers : {tests : List Bool} {meanings : List (Type 0)} (last : ℕ)
+    → Asked tests meanings
+    → (ns : List ℕ)
+    → Says last (rowsWith tests ns) (casesWith meanings ns last)
+with-numbers last no-more ns = otherwise
+with-numbers last (m and rest) [] = m & with-numbers last rest []
+with-numbers last (m and rest) (n ∷ ns) = m & with-numbers last rest ns
+
 -- Case k is the first that holds, and it gives N.
 abbrev GivenAt : List Case → ℕ → ℕ → Type 0
 GivenAt cases N k = FirstAt cases k × GivesAt cases k N

@@ -12,7 +12,7 @@ use borrow.Author.Tests.{le-ltb, eqb-true, not-false}
 use Rattle.meaning.specs.declared.Drive.{Drive}
 use Rattle.meaning.specs.declared.Copied.{Copied}
 use Rattle.meaning.specs.declared.Record.{Record}
-use Rattle.meaning.specs.First.{Row, firstOf, _↝_}
+use Rattle.meaning.specs.First.{Row, firstOf, _↝_, _telling_}
 use Rattle.meaning.specs.Each.{someOf, sumOf}
 use Rattle.meaning.specs.Store.{memory, Store}
 use Rattle.meaning.specs.State.{State, mostCommands}
@@ -21,7 +21,7 @@ use Rattle.meaning.specs.Sizes.{sizesWrong}
 use Rattle.meaning.specs.Fields.{allIn}
 use Rattle.meaning.specs.declared.Link.{Link}
 use Rattle.meaning.specs.Links.{mostLinks}
-use Rattle.meaning.specs.Code.{copiedAt, nop, write, commandIn, odd, firstSector, linksIn, listOutside, commandRows, transferRows, dataRows, codeOf, earlyCode, linksRead}
+use Rattle.meaning.specs.Code.{copiedAt, nop, write, commandIn, odd, firstSector, fittedOnDrive, linksIn, listOutside, commandRows, transferRows, dataRows, codeOf, earlyCode, linksRead}
 use Rattle.meaning.specs.Walk.{recordOf, goesOn, shares, Chain, refused, accepted, follow, chainAt, filled}
 use Rattle.meaning.specs.Command.{transfers, stepsOf, remaining}
 use Rattle.meaning.specs.Pick.{badTransfer, badRecord, spoiled}
@@ -85,7 +85,7 @@ module _ (d : Drive) (s : Store) (c : Copied) (a : ℕ) where
       let xs = linksIn m c in
       let last = data-off c d n xs e h in
       let none : eqb (c .count) 0 ≡ false = row c d n xs e h {r = eqb (c .count) 0 ↝ 0x13} (search (here, there) depth 12) in
-      let drive : ltb (sectorCount d) (firstSector d c + c .count) ≡ false = row c d n xs e h {r = ltb (sectorCount d) (firstSector d c + c .count) ↝ 0x10} (search (here, there) depth 12) in
+      let drive : ltb (sectorCount d) (firstSector d c + c .count) ≡ false = row c d n xs e h {r = ltb (sectorCount d) (firstSector d c + c .count) ↝ 0x10 telling fittedOnDrive c d} (search (here, there) depth 12) in
       let unprotected : (eqb (commandIn (c .byte0)) write && d .protected) ≡ false = row c d n xs e h {r = (eqb (commandIn (c .byte0)) write && d .protected) ↝ 0x90} (search (here, there) depth 12) in
       let read = read-all m c d e h in
       rw (read, links-kept xs, in-listed m c, none, le-ltb mostLinks (length xs) (in-few m c), last .1 .1 .1 .0, last .1 .0, drive, e) unprotected

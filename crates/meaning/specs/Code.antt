@@ -1,17 +1,19 @@
--- The code that each command will get: fixed at the walk, from the copied bytes and the copied link list (Code 1 to 12 and 14 to 16).
+-- The code that each command will get, and how many sectors would have fitted: fixed at the walk, from the copied bytes and the copied link
+-- list (Code 1 to 12 and 14 to 18).
 use Prim.Native.Nat.{ℕ, _+_, _*_, _/_, _%_}
 use mathlib.Core.Bool.{Bool, not, _&&_, _||_, cond}
 use mathlib.Core.List.{List, [], _∷_}
 use lib.ListN.{length}
 use lib.Dec.{ltb, eqb}
-use Rattle.meaning.specs.First.{Row, firstOf, _↝_}
+use Rattle.meaning.specs.First.{Row, firstOf, toldOf, _↝_, _telling_}
 use Rattle.meaning.specs.Each.{someOf}
 use Rattle.meaning.specs.declared.Drive.{Drive}
 use Rattle.meaning.specs.declared.Link.{Link}
 use Rattle.meaning.specs.Store.{theUnit}
-use Rattle.meaning.specs.Ranges.{Range}
+use Rattle.meaning.specs.Ranges.{Range, bytes}
 use Rattle.meaning.specs.Links.{linkBytes, mostLinks, linksAt, rangesOf, bytesIn}
-use Rattle.meaning.specs.Sectors.{sectorBytes, maximumOn, sectorCount, sectorNumber}
+use Rattle.meaning.specs.Sectors.{sectorBytes, maximumOn, sectorNumber}
+use Rattle.meaning.specs.Ends.{driveEnd, memoryEnd, asByte}
 use Rattle.meaning.specs.Fields as iopb
 use Rattle.meaning.specs.declared.Copied.{Copied}
 
@@ -75,7 +77,15 @@ listOutside c n = ltb n (c .address + linkBytes * linkCount c)
 
 -- a range that ends past the end of a memory of n bytes, be it empty or not
 abbrev pub outside : ℕ → Range → Bool
-outside n r = ltb n (r .from + r .many)
+outside n r = memoryEnd n r .past
+
+-- what its row tells of a command whose sectors go past the end of the drive, with a link list or without one (Code 18)
+abbrev pub fittedOnDrive : Copied → Drive → ℕ
+fittedOnDrive c d = asByte (driveEnd d (firstSector d c) (c .count) .fitted)
+
+-- and of one with a range outside a memory of n bytes: with a list nothing, without one what would have fitted from its data address on
+abbrev pub fittedInMemory : Copied → ℕ → ℕ
+fittedInMemory c n = cond (gathers c) 0 (asByte (memoryEnd n (bytes (c .address) (sectorBytes * c .count)) .fitted))
 
 -- What every command is asked, row by row. A No Operation that comes this far has nothing more to be asked.
 abbrev pub commandRows : Copied → List Row
@@ -100,7 +110,7 @@ transferRows c d =
     ∷ ltb (d .head) (c .head) ↝ 0x11
     ∷ ltb (maximumOn d (c .head)) (c .sector) ↝ 0x12
     -- Code 9: the sectors go past the end of the drive
-    ∷ ltb (sectorCount d) (firstSector d c + c .count) ↝ 0x10
+    ∷ driveEnd d (firstSector d c) (c .count) .past ↝ 0x10 telling fittedOnDrive c d
     -- Code 10: a Write Data on a protected drive
     ∷ (eqb (commandIn (c .byte0)) write && d .protected) ↝ 0x90
     ∷ []
@@ -115,12 +125,17 @@ dataRows c n xs =
     -- Code 16: a range of the list begins at an odd address
     ∷ someOf (λ x. odd (x .address)) xs ↝ 0x1F
     -- Code 11: a range goes past the end of memory, a bus error
-    ∷ someOf (outside n) (rangesOf (gathers c) (c .address) (c .count) xs) ↝ 0x4B
+    ∷ someOf (outside n) (rangesOf (gathers c) (c .address) (c .count) xs) ↝ 0x4B telling fittedInMemory c n
     ∷ []
 
 -- the first that applies wins; 00 otherwise (Code 12)
 unfoldable pub codeOf : Copied → Drive → ℕ → List Link → ℕ
 codeOf c d n xs = firstOf (commandRows c) (firstOf (transferRows c d) (firstOf (dataRows c n xs) 0x00))
+
+-- how many sectors would have fitted, as one byte: what the row tells that gives the code, and that is nothing, 0, of every row but two
+-- (Code 18)
+unfoldable pub fittedOf : Copied → Drive → ℕ → List Link → ℕ
+fittedOf c d n xs = toldOf (commandRows c) (toldOf (transferRows c d) (toldOf (dataRows c n xs) 0))
 
 -- the code of a command by the rows that do not look at its data
 unfoldable pub earlyCode : Copied → Drive → ℕ

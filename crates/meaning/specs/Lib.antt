@@ -1,6 +1,7 @@
 -- The rules of the board as definitions. First how its tables of numbers are read, where bytes are, and what a drive is; an IOPB and a
 -- viewer over it; link lists, the codes and the walk; steps and when a command waits; picks and runs; the bench; and examples, proved: the
--- starred ones, those with a shorter last head, those with link lists, and those at the edge of 16 and of 32 bits.
+-- starred ones, those with a shorter last head, those with link lists, those at the edge of 16 and of 32 bits, and those of what would have
+-- fitted.
 pub mod First
 pub mod Each
 pub mod OneReply
@@ -14,6 +15,7 @@ pub mod Ranges
 pub mod State
 pub mod Sizes
 pub mod Links
+pub mod Ends
 pub mod Code
 pub mod Walk
 pub mod Command
@@ -31,3 +33,4 @@ pub mod Starred
 pub mod LastHead
 pub mod Scatter
 pub mod Widths
+pub mod Fitted

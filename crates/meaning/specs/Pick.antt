@@ -11,7 +11,8 @@ use Rattle.meaning.specs.Each.{someOf}
 use Rattle.meaning.specs.declared.Drive.{Drive}
 use Rattle.meaning.specs.Store.{memory, Store}
 use Rattle.meaning.specs.State.{State, mostCommands}
-use Rattle.meaning.specs.Sectors.{sectorBytes, sectorCount}
+use Rattle.meaning.specs.Sectors.{sectorBytes}
+use Rattle.meaning.specs.Ends.{driveEnd}
 use Rattle.meaning.specs.Fields.{allIn}
 use Rattle.meaning.specs.declared.Record.{Record}
 use Rattle.meaning.specs.Sizes.{sizesWrong}
@@ -29,7 +30,7 @@ badTransfer d s r =
     || ltb mostLinks (r .ranges)
     || someOf (outside (length (s memory))) (dataBytes r)
     || not (eqb (bytesIn (dataBytes r)) (sectorBytes * r .count))
-    || ltb (sectorCount d) (r .sector + r .count)
+    || driveEnd d (r .sector) (r .count) .past
     || writes r && d .protected
 
 -- Spoiled 2 and 3: a record whose IOPB is not all in memory, or with more steps taken than it has, or that is such a transfer

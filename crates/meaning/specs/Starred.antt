@@ -11,7 +11,7 @@ use Rattle.meaning.specs.Fields.{byteOf}
 use Rattle.meaning.specs.Ranges.{crosses}
 use Rattle.meaning.specs.State.{stateOf}
 use Rattle.meaning.specs.Sizes.{sizesWrong}
-use Rattle.meaning.specs.Code.{copiedAt, linkCount, linksIn, codeOf, earlyCode, linksRead}
+use Rattle.meaning.specs.Code.{copiedAt, linkCount, linksIn, codeOf, fittedOf, earlyCode, linksRead}
 use Rattle.meaning.specs.Walk.{Chain, refused, accepted, recordOf, chainAt, filled}
 use Rattle.meaning.specs.Command.{stepsOf, finished, noRecord}
 use Rattle.meaning.specs.Touch.{conflict}
@@ -55,7 +55,7 @@ commandsIn (refused n) = []
 commandsIn (accepted rs) = rs
 
 abbrev pub noCommand : Record
-noCommand = record { iopb = 0; address = 0; sector = 0; taken = 0; ranges = 0; count = 0; byte0 = 0; code = 255; list = [] }
+noCommand = record { iopb = 0; address = 0; sector = 0; taken = 0; ranges = 0; count = 0; byte0 = 0; code = 255; fitted = 0; unused = 0; list = [] }
 
 -- the number of a first pick at place p on a deck's chain; 255 where there is none
 abbrev pub pickIn : List ℕ → ℕ → Chain → ℕ
@@ -166,6 +166,7 @@ ours =
     ∷ statusByte (0 ≔ 0x05 ∷ []) 2 ⇒ 0x03
     ∷ statusByte (0 ≔ 0x05 ∷ 0x1F ≔ 1 ∷ []) 2 ⇒ 0x13
     ∷ statusByte (0 ≔ 0x05 ∷ 1 ≔ 1 ∷ 2 ≔ 1 ∷ 3 ≔ 1 ∷ []) 3 ⇒ 0x00
+    ∷ statusByte (0 ≔ 2 ∷ 3 ≔ 9 ∷ 9 ≔ 3 ∷ 0xB ≔ 1 ∷ 0xC ≔ 1 ∷ 0xD ≔ 6 ∷ 0x12 ≔ 0x04 ∷ []) 3 ⇒ 2
     -- memory at its limit and over it (Size 1), a table of 31 records (Size 4), 32 commands and 33 (Spoiled 1), and 1 before 9 (Run 8)
     ∷ runOver 32 65_536 32 ⇒ 0
     ∷ runOver 32 65_537 32 ⇒ 1
@@ -175,5 +176,5 @@ ours =
     ∷ []
 
 pub our-rows : Answered ours
-unfolding byteOf copiedAt linkCount linksIn codeOf earlyCode linksRead recordOf chainAt sizesWrong maximaRight imageRight maximumOn perCylinder sectorCount sectorNumber benchMemory benchImage benchDrive pickNumber conflict crosses stepsOf finished closing runNumber
+unfolding byteOf copiedAt linkCount linksIn codeOf fittedOf earlyCode linksRead recordOf chainAt sizesWrong maximaRight imageRight maximumOn perCylinder sectorCount sectorNumber benchMemory benchImage benchDrive pickNumber conflict crosses stepsOf finished closing runNumber
 our-rows = refl

@@ -40,10 +40,11 @@ sectorMove r k = sectorMoveBy (reads r) (writes r) r k
 unfoldable pub closingByte0 : Record → ℕ
 closingByte0 r = r .byte0 % 64 + 64 + cond (eqb (r .code) 0) 0 128
 
--- Step 7 to 9: byte 1 is the code; byte 2 says on cylinder and ready, and WRPT for a protected drive; byte 3 is 00
+-- Step 7 to 9: byte 1 is the code; byte 2 says on cylinder and ready, and WRPT for a protected drive; byte 3 is how many sectors would have
+-- fitted, as the record has it, whatever the code
 unfoldable pub closing : Drive → Record → List ℕ
 unfolding closingByte0
-closing d r = closingByte0 r ∷ r .code ∷ cond (d .protected) 0x13 0x03 ∷ 0 ∷ []
+closing d r = closingByte0 r ∷ r .code ∷ cond (d .protected) 0x13 0x03 ∷ r .fitted ∷ []
 
 -- Step 5: a close writes bytes 0 to 3 of the command's own IOPB
 unfoldable pub closeMove : Drive → Record → List Move
@@ -72,5 +73,7 @@ stepped r =
       count = r .count;
       byte0 = r .byte0;
       code = r .code;
+      fitted = r .fitted;
+      unused = r .unused;
       list = r .list;
     }

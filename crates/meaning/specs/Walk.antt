@@ -15,7 +15,7 @@ use Rattle.meaning.specs.State.{State, mostCommands}
 use Rattle.meaning.specs.Ranges.{bytes, overlap}
 use Rattle.meaning.specs.Sizes.{sizesWrong}
 use Rattle.meaning.specs.Links.{padded}
-use Rattle.meaning.specs.Code.{copiedAt, linksIn, linksRead, codeOf, chained, odd, firstSector}
+use Rattle.meaning.specs.Code.{copiedAt, linksIn, linksRead, codeOf, fittedOf, chained, odd, firstSector}
 
 -- a command's record as the walk fills it, whatever its code: no step taken yet (Record 3 and 4); m is memory
 unfoldable pub recordOf : Copied → ℕ → Drive → List ℕ → Record
@@ -29,6 +29,8 @@ recordOf c a d m =
       count = c .count;
       byte0 = c .byte0;
       code = codeOf c d (length m) (linksIn m c);
+      fitted = fittedOf c d (length m) (linksIn m c);
+      unused = 0;
       list = padded (linksRead m c d);
     }
 

@@ -52,6 +52,12 @@ pub struct Copied {
     pub next: u32,
 }
 
+// What a test for an end answers: whether the end is passed, and how many whole sectors would have fitted, from the same start on.
+pub struct End {
+    pub past: bool,
+    pub fitted: u64,
+}
+
 // One element of a link list: a range of memory, by where it begins and how many bytes it has. It fills its eight bytes, so that a table
 // has no byte that is left unset, and is copied and filled as plain bytes.
 #[repr(C)]
@@ -74,13 +80,16 @@ pub struct Record {
     // steps taken
     pub taken: u32,
     // how many ranges its link list has; 0 where it has no list
-    pub ranges: u32,
+    pub ranges: u16,
     // how many sectors
     pub count: u16,
     // the copied byte 0
     pub byte0: u8,
-    // the code that its close will post
+    // the code that its close will post, and how many sectors would have fitted, which it posts beside it
     pub code: u8,
+    pub fitted: u8,
+    // the walk makes it 0, and nothing looks at it: no byte of a table is left unset
+    pub unused: u8,
     // the ranges, as the walk copied them, before elements of zeros
     pub list: [Link; 32],
 }

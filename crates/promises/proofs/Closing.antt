@@ -1,5 +1,5 @@
 -- The four bytes of a close, bit by bit: byte 0 is the copied byte 0 with bits 7 and 6 made anew.
-use mathlib.Core.Path.{_≡_, refl, _∙_}
+use mathlib.Core.Path.{_≡_, refl, sym, _∙_}
 use mathlib.Core.Logic.{_↔_, _≢_}
 use Prim.Native.Nat.{ℕ, zero, suc, _+_, _*_, _%_, _<_}
 use native.Mathlib.Omega.{arith}
@@ -10,9 +10,11 @@ use Rattle.meaning.specs.declared.Drive.{Drive}
 use Rattle.meaning.specs.declared.Record.{Record}
 use Rattle.meaning.specs.Fields.{bit}
 use Rattle.meaning.specs.Store.{memory}
+use Rattle.meaning.specs.Walk.{recordOf}
 use Rattle.meaning.specs.Step.{closingByte0, closing, step}
 use Rattle.meaning.proofs.Means.{Means, holds, fails, means-eq}
-use Rattle.promises.specs.Closing.{StatusBytes, ClosingBytes}
+use Rattle.promises.specs.Closing.{StatusBytes, ClosingBytes, ByteThreeExactlyWhen}
+use Rattle.promises.proofs.Fitted.{fitted-exactly-when}
 use Rattle.promises.proofs.StepMoves.{step-moves-one}
 
 -- bits 5 to 0 of b, 1 and e
@@ -91,3 +93,10 @@ module _ (d : Drive) (r : Record) (byte : ℕ → ℕ) (same : (j : ℕ) → j <
 
 pub closing-bytes : ClosingBytes
 closing-bytes d r s may last = status-bytes d r (λ j. getD (step d r s memory) (r .iopb + j) 0) (step-moves-one d r s may .posted last)
+
+pub byte-three-exactly-when : ByteThreeExactlyWhen
+unfolding recordOf
+byte-three-exactly-when c a m d r s same may last N =
+    let byte3 = closing-bytes d r s may last .internal ∙ same in
+    let exactly = fitted-exactly-when c d m N in
+    ((λ e. exactly .0 (sym byte3 ∙ e)), λ t. byte3 ∙ exactly .1 t)

@@ -4,6 +4,7 @@ pub mod Chain
 pub mod Walk
 pub mod WalkFills
 pub mod Numbers
+pub mod Fitted
 pub mod RangesKept
 pub mod EachNumber
 pub mod Looks

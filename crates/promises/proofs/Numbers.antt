@@ -5,7 +5,7 @@ use mathlib.Core.Logic.{_↔_, inl, inr}
 use Prim.Native.Nat.{ℕ, _+_, _*_, _%_, _≤_, _<_}
 use native.Mathlib.Omega.{arith}
 use mathlib.Core.Bool.{Bool, cond}
-use mathlib.Core.List.{List}
+use mathlib.Core.List.{List, [], _∷_, _++_, map}
 use lib.ListN.{length, getD}
 use lib.Dec.{ltb}
 use Rattle.meaning.specs.declared.Drive.{Drive}
@@ -17,19 +17,19 @@ use Rattle.meaning.specs.Fields.{iopbBytes, bit}
 use Rattle.meaning.specs.Look.{lookNumber}
 use Rattle.meaning.specs.View.{madeNumber, viewOf}
 use Rattle.meaning.specs.Links.{linkBytes, bytesIn}
-use Rattle.meaning.specs.Code.{nop, write, read, commandIn, firstSector, linkCount, linksIn, codeOf}
+use Rattle.meaning.specs.Code.{nop, write, read, commandIn, firstSector, linkCount, linksIn, commandRows, transferRows, dataRows, codeOf}
 use Rattle.meaning.specs.Command.{noRecord}
 use Rattle.meaning.specs.Pick.{placeNumber, pickNumber, PickGives}
 use Rattle.meaning.specs.Run.{runNumber, runReply, RunGives}
-use Rattle.meaning.specs.Table.{Given}
+use Rattle.meaning.specs.Table.{Given, _⇒_}
 use Rattle.meaning.proofs.Means.{Means, holds, fails, when-true, is-true, means-iff, means-itself, means-and, means-or₃, means-lt, means-le, means-above, means-eq, means-other, means-of}
-use Rattle.meaning.proofs.Table.{otherwise, _&_, by-number, by-place}
+use Rattle.meaning.proofs.Table.{otherwise, _&_, by-number, by-place, Asked, no-more, _and_, with-numbers}
 use Rattle.meaning.proofs.Conditions.{some-sector, means-image, means-sizes, means-finished, means-outside, means-spoiled}
 use Rattle.meaning.proofs.Conflict.{means-conflict, means-waits}
 use Rattle.promises.specs.PickNumbers.{pickTable, runTable, PickExactlyWhen, RunExactlyWhen, ConflictExactlyWhen}
 use Rattle.promises.specs.Looks.{LookExactlyWhen}
 use Rattle.promises.specs.Views.{viewTable, ViewExactlyWhen}
-use Rattle.promises.specs.Codes.{SectorAbove, Data, CodeExactlyWhen}
+use Rattle.promises.specs.Codes.{SectorAbove, Data, commandTable, transferTable, listTable, PastMemory, CodeExactlyWhen}
 
 -- ---- picks and runs
 
@@ -82,7 +82,7 @@ view-exactly-when m a N = (view-number-exactly-when m a N, λ v e. rw e (view-nu
 
 -- ---- codes
 
-means-sector-above : (d : Drive) (c : Copied) → Means (SectorAbove d c) (ltb (maximumOn d (c .head)) (c .sector))
+pub means-sector-above : (d : Drive) (c : Copied) → Means (SectorAbove d c) (ltb (maximumOn d (c .head)) (c .sector))
 unfolding maximumOn
 means-sector-above d c = go (means-eq (c .head) (d .head))
   where
@@ -98,22 +98,35 @@ means-sector-above d c = go (means-eq (c .head) (d .head))
         above (inl l) = absurd (n (l .0))
         above (inr l) = l .1
 
+-- what a command is asked, each test beside what it means; its codes are given by these questions, and so is what is told beside them
+module _ (c : Copied) (d : Drive) (m : List ℕ) where
+  abbrev tests : List Bool
+  tests = map (λ r. r .applies) (commandRows c ++ (transferRows c d ++ dataRows c (length m) (linksIn m c)))
+
+  abbrev meanings : List (Type 0)
+  meanings = map (λ k. k .holds) (commandTable c ++ (transferTable c d ++ (listTable c d m ++ (PastMemory c d m ⇒ 0x4B ∷ []))))
+
+  pub questions : Asked tests meanings
+  questions =
+      means-and (means-eq (bit 5 (c .byte0)) 1) (means-eq (c .next % 2) 1)
+      and means-or₃ (means-lt read (commandIn (c .byte0))) (means-and (means-eq (bit 4 (c .byte0)) 1) (means-eq (commandIn (c .byte0)) nop)) (means-other (c .subfunction) 0)
+      and means-eq (commandIn (c .byte0)) nop
+      and means-other (c .unit) theUnit
+      and means-eq (c .count) 0
+      and means-lt (d .cylinder) (c .cylinder)
+      and means-lt (d .head) (c .head)
+      and means-sector-above d c
+      and means-lt (sectorCount d) (firstSector d c + c .count)
+      and means-and (means-eq (commandIn (c .byte0)) write) (means-itself (d .protected))
+      and means-and (means-eq (bit 4 (c .byte0)) 1) (means-lt (length m) (c .address + linkBytes * linkCount c))
+      and means-other (bytesIn (Data m c)) (sectorBytes * c .count)
+      and means-of (λ x. means-eq (x .address % 2) 1) (linksIn m c)
+      and means-of (means-outside (length m)) (Data m c)
+      and no-more
+
 pub code-exactly-when : (c : Copied) (d : Drive) (m : List ℕ) (code : ℕ) → CodeExactlyWhen c d m code
 unfolding codeOf
 code-exactly-when c d m =
     by-place
-    (means-and (means-eq (bit 5 (c .byte0)) 1) (means-eq (c .next % 2) 1)
-    & means-or₃ (means-lt read (commandIn (c .byte0))) (means-and (means-eq (bit 4 (c .byte0)) 1) (means-eq (commandIn (c .byte0)) nop)) (means-other (c .subfunction) 0)
-    & means-eq (commandIn (c .byte0)) nop
-    & means-other (c .unit) theUnit
-    & means-eq (c .count) 0
-    & means-lt (d .cylinder) (c .cylinder)
-    & means-lt (d .head) (c .head)
-    & means-sector-above d c
-    & means-lt (sectorCount d) (firstSector d c + c .count)
-    & means-and (means-eq (commandIn (c .byte0)) write) (means-itself (d .protected))
-    & means-and (means-eq (bit 4 (c .byte0)) 1) (means-lt (length m) (c .address + linkBytes * linkCount c))
-    & means-other (bytesIn (Data m c)) (sectorBytes * c .count)
-    & means-of (λ x. means-eq (x .address % 2) 1) (linksIn m c)
-    & means-of (means-outside (length m)) (Data m c)
-    & otherwise)
+    (with-numbers 0 (questions c d m)
+    (0x1E ∷ 0x14 ∷ 0x00 ∷ 0x42 ∷ 0x13 ∷ 0x10 ∷ 0x11 ∷ 0x12 ∷ 0x10 ∷ 0x90 ∷ 0x4B ∷ 0x1C ∷ 0x1F ∷ 0x4B ∷ []))

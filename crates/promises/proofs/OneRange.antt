@@ -22,7 +22,7 @@ use Rattle.meaning.specs.Ranges.{bytes, sectorsOf}
 use Rattle.meaning.specs.Links.{linkAt, linksAt, rangeOf, bytesIn}
 use Rattle.meaning.specs.Pieces.{Piece, piecesOf}
 use Rattle.meaning.specs.Fields.{byteOf, bit, twoBytes, sgm, data-address}
-use Rattle.meaning.specs.Code.{copiedAt, read, write, commandIn, gathers, firstSector, linkCount, linksIn, listOutside, earlyCode, linksRead}
+use Rattle.meaning.specs.Code.{copiedAt, read, write, commandIn, gathers, firstSector, linkCount, linksIn, listOutside, codeOf, fittedOf, earlyCode, linksRead}
 use Rattle.meaning.specs.Walk.{recordOf}
 use Rattle.meaning.specs.Command.{reads, writes, stepsOf, remaining}
 use Rattle.meaning.specs.Touch.{dataBytes, touched, disturbs, conflict, Touched}
@@ -38,6 +38,7 @@ use Rattle.meaning.proofs.Links.{links-kept}
 use Rattle.meaning.proofs.Pieces.{data-plain, data-listed}
 use Rattle.promises.specs.OneRange.{ButSgm, OneRange, StaysOneRange, AlikeBut, OneRangeAsNone, walkedAt, SameButSgm, WalkedSo, OneRangeWalked}
 use Rattle.promises.proofs.Closing.{low-bits, bit-6, bit-7, errsOf, errs-small, closing-byte-0}
+use Rattle.promises.proofs.Fitted.{told-with-two-codes}
 use Rattle.promises.proofs.RangesKept.{read-then, adds-up}
 
 -- ---- bytes that differ in SGM alone
@@ -140,7 +141,7 @@ module _ (r q : Record) (x : Link) (o : OneRange r q x) where
   -- and the close but for byte 0
   module _ (d : Drive) where
     abbrev closes : ℕ → List Move
-    closes b = post memory (r .iopb) (b ∷ r .code ∷ cond (d .protected) 0x13 0x03 ∷ 0 ∷ []) ∷ []
+    closes b = post memory (r .iopb) (b ∷ r .code ∷ cond (d .protected) 0x13 0x03 ∷ r .fitted ∷ []) ∷ []
 
     close-alike : (u : Store) (b e : ℕ) → ButSgm b e → AlikeBut (r .iopb) (moves (closes b) u) (moves (closes e) u)
     unfolding moves move put
@@ -148,18 +149,18 @@ module _ (r q : Record) (x : Link) (o : OneRange r q x) where
         record {
           sizes = λ p. length-moves (closes b) u p ∙ sym (length-moves (closes e) u p);
           bytes = λ p y n. go p y n (means-same p memory);
-          status = first-but-sgm (u memory) (r .iopb) (r .code ∷ cond (d .protected) 0x13 0x03 ∷ 0 ∷ []) b e h;
+          status = first-but-sgm (u memory) (r .iopb) (r .code ∷ cond (d .protected) 0x13 0x03 ∷ r .fitted ∷ []) b e h;
         }
       where
         go : (p : Space) (y : ℕ) → ¬ ((p ≡ memory) × (y ≡ r .iopb)) → {z : Bool} → Means (p ≡ memory) z
-            → getD (cond z (sets (u p) (r .iopb) (b ∷ r .code ∷ cond (d .protected) 0x13 0x03 ∷ 0 ∷ [])) (u p)) y 0
-            ≡ getD (cond z (sets (u p) (r .iopb) (e ∷ r .code ∷ cond (d .protected) 0x13 0x03 ∷ 0 ∷ [])) (u p)) y 0
-        go p y n (holds z) = others-same (u p) (r .iopb) (r .code ∷ cond (d .protected) 0x13 0x03 ∷ 0 ∷ []) b e y (λ w. n (z, w))
+            → getD (cond z (sets (u p) (r .iopb) (b ∷ r .code ∷ cond (d .protected) 0x13 0x03 ∷ r .fitted ∷ [])) (u p)) y 0
+            ≡ getD (cond z (sets (u p) (r .iopb) (e ∷ r .code ∷ cond (d .protected) 0x13 0x03 ∷ r .fitted ∷ [])) (u p)) y 0
+        go p y n (holds z) = others-same (u p) (r .iopb) (r .code ∷ cond (d .protected) 0x13 0x03 ∷ r .fitted ∷ []) b e y (λ w. n (z, w))
         go p y n (fails o) = refl
 
     same-close : closeMove d q ≡ closes (closingByte0 q)
     unfolding closeMove closing
-    same-close = ap₂ (λ (i k : ℕ). post memory i (closingByte0 q ∷ k ∷ cond (d .protected) 0x13 0x03 ∷ 0 ∷ []) ∷ []) (sym (o .same .iopb)) (sym (o .same .code))
+    same-close = λ j. post memory (sym (o .same .iopb) j) (closingByte0 q ∷ sym (o .same .code) j ∷ cond (d .protected) 0x13 0x03 ∷ sym (o .same .fitted) j ∷ []) ∷ []
 
     closing-but-sgm : ButSgm (closingByte0 r) (closingByte0 q)
     unfolding errsOf
@@ -214,6 +215,7 @@ stays-one-range r q x o =
             count = o .same .count;
             byte0 = o .same .byte0;
             code = o .same .code;
+            fitted = o .same .fitted;
           };
       plain = o .plain;
       one = o .one;
@@ -278,6 +280,10 @@ module _ (m m′ : List ℕ) (d : Drive) (a : ℕ) (h : SameButSgm m m′ d a) w
   unfolding copiedAt
   same-first = λ j. sectorNumber d (same-two 0xA (omega arith) (omega arith) j) (same-byte 0xC (omega arith) (omega arith) j) (same-byte 0xD (omega arith) (omega arith) j)
 
+-- with code 00 nothing is told of what would have fitted
+nothing-told : (m : List ℕ) (d : Drive) (c : Copied) → codeOf c d (length m) (linksIn m c) ≡ 0 → fittedOf c d (length m) (linksIn m c) ≡ 0
+nothing-told m d c e = told-with-two-codes c d m (λ x. omega (arith, e, x)) (λ x. omega (arith, e, x))
+
 pub walked-so : WalkedSo
 unfolding recordOf copiedAt
 walked-so m m′ d a h =
@@ -290,7 +296,7 @@ walked-so m m′ d a h =
     let same-count = same-two m m′ d a h 8 (omega arith) (omega arith) in
     let sum = ap (λ (xs : List Link). bytesIn (map rangeOf xs)) (sym link) ∙ adds-up c d m g (h .listed) in
     record {
-      same = record { iopb = refl; sector = same-first m m′ d a h; taken = refl; count = same-count; byte0 = h .byte0; code = h .listed ∙ sym (h .plain) };
+      same = record { iopb = refl; sector = same-first m m′ d a h; taken = refl; count = same-count; byte0 = h .byte0; code = h .listed ∙ sym (h .plain); fitted = nothing-told m d c (h .listed) ∙ sym (nothing-told m′ d e (h .plain)) };
       plain = ap length (none-read m′ d e none);
       one = ap length is-one;
       only = links-kept (linksRead m c d) ∙ is-one;

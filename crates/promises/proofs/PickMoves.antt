@@ -20,7 +20,7 @@ use Rattle.promises.proofs.StepMoves.{step-moves-one}
 
 one-step-more : (r : Record) → OneStepMore r (stepped r)
 unfolding stepped
-one-step-more r = record { taken = refl; iopb = refl; address = refl; sector = refl; ranges = refl; count = refl; byte0 = refl; code = refl; list = refl }
+one-step-more r = record { taken = refl; iopb = refl; address = refl; sector = refl; ranges = refl; count = refl; byte0 = refl; code = refl; fitted = refl; unused = refl; list = refl }
 
 module _ (d : Drive) (n p : ℕ) (s : State) (zero : pickNumber d n p s ≡ 0) where
   passed : Passed d n s

@@ -4,12 +4,16 @@ use mathlib.Core.Path.{_≡_}
 use mathlib.Core.Logic.{_↔_, _≢_}
 use Prim.Native.Nat.{ℕ, _+_, _<_}
 use mathlib.Core.Bool.{true, false}
+use mathlib.Core.List.{List}
 use lib.ListN.{getD}
 use Rattle.meaning.specs.declared.Drive.{Drive}
+use Rattle.meaning.specs.declared.Copied.{Copied}
 use Rattle.meaning.specs.declared.Record.{Record}
 use Rattle.meaning.specs.Store.{memory, Store}
 use Rattle.meaning.specs.Fields.{bit}
+use Rattle.meaning.specs.Walk.{recordOf}
 use Rattle.meaning.specs.Step.{step}
+use Rattle.promises.specs.Fitted.{Told}
 use Rattle.promises.specs.StepMoves.{MayStep, Last}
 
 -- `byte` gives bytes 0 to 3; bit 7 of byte 0 is ERRS, bit 6 DONE, and its other bits are those of the copied byte 0
@@ -21,7 +25,7 @@ pub record StatusBytes (d : Drive) (r : Record) (byte : ℕ → ℕ) : Type 0 wh
   pub code : byte 1 ≡ r .code
   pub unprotected : d .protected ≡ false → byte 2 ≡ 0x03
   pub protected : d .protected ≡ true → byte 2 ≡ 0x13
-  pub internal : byte 3 ≡ 0
+  pub internal : byte 3 ≡ r .fitted
 
 abbrev pub ClosingBytes : Type 0
 ClosingBytes =
@@ -29,3 +33,14 @@ ClosingBytes =
     → MayStep d r s
     → Last r
     → StatusBytes d r (λ j. getD (step d r s memory) (r .iopb + j) 0)
+
+-- Of a command that the walk filled in, with any of its steps taken since: when byte 3 is which number. c is what the walk copied from the
+-- IOPB at a, m memory then.
+abbrev pub ByteThreeExactlyWhen : Type 0
+ByteThreeExactlyWhen =
+    (c : Copied) (a : ℕ) (m : List ℕ) (d : Drive) (r : Record) (s : Store)
+    → r .fitted ≡ recordOf c a d m .fitted
+    → MayStep d r s
+    → Last r
+    → (N : ℕ)
+    → (getD (step d r s memory) (r .iopb + 3) 0 ≡ N) ↔ Told c d m N

@@ -38,17 +38,25 @@ commandTable c =
 abbrev pub SectorAbove : Drive → Copied → Type 0
 SectorAbove d c = ((c .head ≡ d .head) × (d .«last_sector» < c .sector)) ⊎ ((c .head ≢ d .head) × (d .sector < c .sector))
 
--- what only a transfer is asked before its data is looked at
-abbrev pub transferTable : Copied → Drive → List Case
-transferTable c d =
+-- what only a transfer is asked before its data is looked at: first whether it is a place of the drive that is named, and any sectors
+abbrev pub placeTable : Copied → Drive → List Case
+placeTable c d =
     (c .unit ≢ theUnit) ⇒ 0x42
     ∷ (c .count ≡ 0) ⇒ 0x13
     ∷ (d .cylinder < c .cylinder) ⇒ 0x10
     ∷ (d .head < c .head) ⇒ 0x11
     ∷ SectorAbove d c ⇒ 0x12
-    ∷ (sectorCount d < firstSector d c + c .count) ⇒ 0x10
-    ∷ ((commandIn (c .byte0) ≡ write) × (d .protected ≡ true)) ⇒ 0x90
     ∷ []
+
+-- then the end of the drive, and its protect mark
+abbrev pub PastDrive : Copied → Drive → Type 0
+PastDrive c d = sectorCount d < firstSector d c + c .count
+
+abbrev pub Forbidden : Copied → Drive → Type 0
+Forbidden c d = (commandIn (c .byte0) ≡ write) × (d .protected ≡ true)
+
+abbrev pub transferTable : Copied → Drive → List Case
+transferTable c d = placeTable c d ++ (PastDrive c d ⇒ 0x10 ∷ Forbidden c d ⇒ 0x90 ∷ [])
 
 -- its link list, which it has with SGM alone: as many elements as byte 6 says, from the data address on
 abbrev pub linksOfCommand : List ℕ → Copied → List Link
@@ -59,15 +67,19 @@ abbrev pub Data : List ℕ → Copied → List Range
 Data m c = rangesOf (gathers c) (c .address) (c .count) (linksOfCommand m c)
 
 module _ (c : Copied) (d : Drive) (m : List ℕ) where
-  -- what its data is asked
-  abbrev pub dataTable : List Case
-  dataTable =
+  -- what its data is asked: first its list, and then the end of memory
+  abbrev pub listTable : List Case
+  listTable =
       (Sgm c × (length m < c .address + linkBytes * linkCount c)) ⇒ 0x4B
       ∷ (bytesIn (Data m c) ≢ sectorBytes * c .count) ⇒ 0x1C
       ∷ SomeOf (λ x. Odd (x .address)) (linksOfCommand m c) ⇒ 0x1F
-      ∷ SomeOf (Outside (length m)) (Data m c) ⇒ 0x4B
-      ∷ Otherwise ⇒ 0x00
       ∷ []
+
+  abbrev pub PastMemory : Type 0
+  PastMemory = SomeOf (Outside (length m)) (Data m c)
+
+  abbrev pub dataTable : List Case
+  dataTable = listTable ++ (PastMemory ⇒ 0x4B ∷ Otherwise ⇒ 0x00 ∷ [])
 
   -- the one after the other
   abbrev pub codeTable : List Case

@@ -9,6 +9,7 @@ pub mod Numbering
 pub mod Widths
 pub mod Views
 pub mod Codes
+pub mod Fitted
 pub mod RangesKept
 pub mod Refused
 pub mod OneReply

@@ -36,6 +36,7 @@ pub record SameButList (r q : Record) : Type 0 where
   pub count : r .count ≡ q .count
   pub byte0 : ButSgm (r .byte0) (q .byte0)
   pub code : r .code ≡ q .code
+  pub fitted : r .fitted ≡ q .fitted
 
 -- q has no list; that of r has one range, x, which lies where the data of q does
 pub record OneRange (r q : Record) (x : Link) : Type 0 where

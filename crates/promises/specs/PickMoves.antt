@@ -24,6 +24,8 @@ pub record OneStepMore (r r′ : Record) : Type 0 where
   pub count : r′ .count ≡ r .count
   pub byte0 : r′ .byte0 ≡ r .byte0
   pub code : r′ .code ≡ r .code
+  pub fitted : r′ .fitted ≡ r .fitted
+  pub unused : r′ .unused ≡ r .unused
   pub list : r′ .list ≡ r .list
 
 -- such a step at place p, and the table stays but for the steps taken of that record

@@ -11,7 +11,7 @@ use Rattle.meaning.specs.Fields.{byteOf}
 use Rattle.meaning.specs.Sectors.{maximumOn, perCylinder, sectorCount, sectorNumber, maximaRight, imageRight}
 use Rattle.meaning.specs.Sizes.{sizesWrong}
 use Rattle.meaning.specs.Links.{linkAt, linksAt}
-use Rattle.meaning.specs.Code.{copiedAt, linkCount, linksIn, codeOf, earlyCode, linksRead}
+use Rattle.meaning.specs.Code.{copiedAt, linkCount, linksIn, codeOf, fittedOf, earlyCode, linksRead}
 use Rattle.meaning.specs.Walk.{recordOf, walkReply, walkLeaves}
 use Rattle.meaning.specs.Command.{stepsOf, finished}
 use Rattle.meaning.specs.Ranges.{crosses}
@@ -20,7 +20,7 @@ use Rattle.meaning.specs.Run.{byPicks, ranTo, runReply}
 use Rattle.meaning.specs.Deck.{benchDrive, benchMemory, benchImage}
 use Rattle.meaning.specs.Conditions.{Within}
 use Rattle.promises.specs.OneRange.{ButSgm}
-use Rattle.speaks.specs.Example.{Speaks, SpeaksOfLists, withList, withoutList, SpeaksOfOneRange}
+use Rattle.speaks.specs.Example.{Speaks, SpeaksOfLists, withList, withoutList, SpeaksOfOneRange, SpeaksOfEnds}
 
 pub speaks : Speaks
 unfolding byteOf copiedAt linkCount linksIn codeOf earlyCode linksRead recordOf walkReply walkLeaves sizesWrong maximaRight imageRight maximumOn perCylinder sectorCount sectorNumber benchMemory benchImage benchDrive stepsOf finished conflict runReply ranTo byPicks crosses
@@ -75,4 +75,14 @@ speaks-of-one-range =
       address = refl;
       listed = refl;
       plain = refl;
+    }
+
+pub speaks-of-ends : SpeaksOfEnds
+unfolding byteOf copiedAt linkCount linksIn codeOf fittedOf earlyCode linksRead recordOf walkReply walkLeaves sizesWrong maximaRight imageRight maximumOn perCylinder sectorCount sectorNumber stepsOf finished conflict runReply ranTo byPicks crosses
+speaks-of-ends =
+    record {
+      accepted = refl;
+      kept = refl;
+      posted = refl;
+      laid = refl;
     }

@@ -1,6 +1,6 @@
 -- The promises speak of something: the example deck (Bench 10) is a chain with a read, a write and a command that fails, and the definitions
 -- take it, step by step. Each stand-in board (Contract 4 to 8) gives another answer somewhere here. Then a read by a link
--- list, byte by byte, and two commands that a list of one range makes alike.
+-- list, byte by byte, two commands that a list of one range makes alike, and one past the end of the drive.
 use mathlib.Core.Path.{_≡_}
 use Prim.Native.Nat.{ℕ, _%_}
 use mathlib.Core.Bool.{false, cond}
@@ -17,7 +17,8 @@ use Rattle.meaning.specs.Walk.{walkReply, walkLeaves}
 use Rattle.meaning.specs.Run.{byPicks, ranTo, runReply}
 use Rattle.meaning.specs.Deck.{benchDrive}
 use Rattle.meaning.specs.Bench.{noRecords, benchState}
-use Rattle.meaning.specs.Starred.{put, exampleDeck}
+use Rattle.meaning.specs.LastHead.{openDrive}
+use Rattle.meaning.specs.Starred.{_≔_, put, exampleDeck}
 use Rattle.meaning.specs.Scatter.{element, command}
 use Rattle.promises.specs.OneRange.{SameButSgm}
 
@@ -103,3 +104,32 @@ withoutList m = set (set (set (set m 0 0x02) 6 0x00) 0x12 0x00) 0x13 0x40
 
 abbrev pub SpeaksOfOneRange : Type 0
 SpeaksOfOneRange = SameButSgm withList (withoutList withList) oneSector 0
+
+-- ---- past the end of the drive
+
+-- A drive of three sectors, full of 7. The first command reads sector 0 to 40H, over the IOPB of the second, which is at 60H: that one asks
+-- for five sectors from sector 1 on, of which there are two.
+abbrev threeSectors : Drive
+threeSectors = openDrive 0 0 2 2
+
+abbrev pastTheEnd : State
+pastTheEnd =
+    stateOf
+    (put (replicate 0x240 0) (command 0 0x22 0 0x40 0x60 ++ command 0x60 0x02 0 0x40 0 ++ 0x69 ≔ 5 ∷ 0x6D ≔ 1 ∷ []))
+    (replicate 1536 7)
+    noRecords
+
+abbrev pub walkedPast : State
+walkedPast = record { table = walkLeaves threeSectors 0 pastTheEnd; store = pastTheEnd .store }
+
+-- byte x of memory after both
+abbrev pub closedAt : ℕ → ℕ
+closedAt x = getD (ranTo threeSectors 2 (byPicks threeSectors 2 (0 ∷ 1 ∷ [])) walkedPast .state .store memory) x 0
+
+pub record SpeaksOfEnds : Type 0 where
+  pub accepted : walkReply threeSectors 0 pastTheEnd .commands ≡ 2
+  -- the walk keeps what would have fitted: of the first nothing, of the second two sectors
+  pub kept : map (λ (r : Record). r .fitted) (take 2 (walkedPast .table)) ≡ 0 ∷ 2 ∷ []
+  -- code and number are posted, over what the first command laid there; the count beside them is now 7 x 257
+  pub posted : map closedAt (0x61 ∷ 0x63 ∷ []) ≡ 0x10 ∷ 2 ∷ []
+  pub laid : map closedAt (0x64 ∷ 0x68 ∷ 0x69 ∷ []) ≡ 7 ∷ 7 ∷ 7 ∷ []

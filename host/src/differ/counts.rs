@@ -1,9 +1,10 @@
 //! How often each number and each code came up, each thing that the last head's own maximum or a link
-//! list changes, and numbers at the edges of 16 and 32 bits, so that one can see that all were reached.
+//! list changes, numbers at the edges of 16 and 32 bits, and numbers of sectors that would have fitted, so
+//! that one can see that all were reached.
 
 use crate::differ::call::{Call, Reply};
 use crate::differ::sides::RECORDS;
-use crate::differ::{last_head, list_rows, wide_rows};
+use crate::differ::{fitted_rows, last_head, list_rows, wide_rows};
 use second::board::Board;
 use second::record::Record;
 use std::collections::BTreeMap;
@@ -44,12 +45,14 @@ fn all_rows() -> Vec<String> {
     let runs = ["run finished", "run not finished", "pick refused in a list"].map(String::from);
     let lists = list_rows::ROWS.map(String::from);
     let wide = wide_rows::ROWS.map(String::from);
+    let fitted = fitted_rows::ROWS.map(String::from);
     numbers
         .chain(CODES.map(code_row))
         .chain(runs)
         .chain(last_head::all_rows())
         .chain(lists)
         .chain(wide)
+        .chain(fitted)
         .collect()
 }
 
@@ -68,9 +71,10 @@ impl Counts {
         for row in last_head::rows(call, reply, ground, table) {
             self.add(row, 1);
         }
-        let lists = list_rows::rows(call, reply, ground, table);
-        for row in lists.into_iter().chain(wide_rows::rows(call, reply, ground, table)) {
-            self.add(row.to_string(), 1);
+        for rows in [list_rows::rows, wide_rows::rows, fitted_rows::rows] {
+            for row in rows(call, reply, ground, table) {
+                self.add(row.to_string(), 1);
+            }
         }
         match reply {
             Reply::Walked(walked) => {

@@ -4,10 +4,11 @@ use crate::boards::Board;
 use crate::differ::acts::{act, look_around, random_sector, walk};
 use crate::differ::call::Call;
 use crate::differ::counts::Counts;
+use crate::differ::ends::chain_about_ends;
 use crate::differ::lists::give_list;
 use crate::differ::play::{Play, Played};
 use second::board::SECTOR_BYTES;
-use second::makers::chain::random_chain;
+use second::makers::chain::{random_chain, Chain};
 use second::makers::ground::{any_drive, ground, limit_ground};
 use second::makers::rng::Rng;
 use second::makers::script::Script;
@@ -19,7 +20,8 @@ pub fn play_chain(board: &Board, seed: u64, n: u64, counts: &mut Counts, tell: b
     counts.chains += 1;
     let mut play = Play::new(board, Rng::for_case(seed, n), counts, tell);
     match play.rng.below(100) {
-        0..=83 => chain(&mut play),
+        0..=77 => chain(&mut play),
+        78..=83 => chain_about_ends(&mut play),
         84..=91 => table_by_hand(&mut play),
         92..=95 => sizes(&mut play),
         96 | 97 => places(&mut play),
@@ -28,7 +30,7 @@ pub fn play_chain(board: &Board, seed: u64, n: u64, counts: &mut Counts, tell: b
 }
 
 /// The ground of a chain: drive, memory and image, as the second program's makers give it.
-fn lay_ground(play: &mut Play, make: fn(&mut Rng, &mut Script)) {
+pub fn lay_ground(play: &mut Play, make: fn(&mut Rng, &mut Script)) {
     let mut script = Script::default();
     make(&mut play.rng, &mut script);
     let board = script.state.board;
@@ -48,7 +50,13 @@ fn lay_chain(play: &mut Play) {
             play.sides.put(at, &bytes);
         }
     }
-    play.chain = random_chain(&mut play.rng, play.sides.ground());
+    let chain = random_chain(&mut play.rng, play.sides.ground());
+    put_chain(play, chain);
+}
+
+/// Puts a chain in memory, its lists first.
+pub fn put_chain(play: &mut Play, chain: Chain) {
+    play.chain = chain;
     for (at, bytes) in play.chain.lists.clone() {
         play.say(|| format!("link list at {at}: {bytes:02X?}"));
         play.sides.put(at as usize, &bytes);
@@ -134,7 +142,14 @@ fn random_record(play: &mut Play) -> Record {
         taken: 0,
         count: count as u16,
         byte0: rng.byte() & 0xF0 | command,
-        code: if (command == 1 && drive.protected) || rng.once_in(6) { 0x90 } else { 0 },
+        code: if (command == 1 && drive.protected) || rng.once_in(6) {
+            rng.one_of(&[0x90, 0x90, 0x10, 0x4B])
+        } else {
+            0
+        },
+        // any number goes with any code, and nothing looks at the byte after it
+        fitted: if rng.percent(40) { rng.byte() } else { 0 },
+        unused_byte: if rng.percent(40) { rng.byte() } else { 0 },
         ..Record::default()
     };
     if rng.percent(45) {

@@ -4,6 +4,8 @@
 pub mod acts;
 pub mod call;
 pub mod counts;
+pub mod ends;
+pub mod fitted_rows;
 pub mod last_head;
 pub mod list_rows;
 pub mod lists;

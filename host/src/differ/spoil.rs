@@ -62,7 +62,7 @@ fn spoil_field(play: &mut Play) -> Played {
     let records = play.commands.min(32) + usize::from(play.rng.once_in(8));
     let place = play.rng.below(records.max(1) as u64) as usize;
     let right = play.sides.table()[place];
-    let field = play.rng.one_of(&[0, 0, 0, 1, 2, 3, 3, 4, 4, 5, 6, 7]);
+    let field = play.rng.one_of(&[0, 0, 0, 1, 2, 3, 3, 4, 4, 5, 6, 7, 8, 8]);
     let value = wrong_value(play, &right, field);
     let mut wrong = right;
     set_field(&mut wrong, field, value);
@@ -100,7 +100,10 @@ fn wrong_value(play: &mut Play, record: &Record, field: u64) -> u64 {
         5 => u64::from(record.byte0 & 0xF0) | rng.one_of(&[0, 1, 1, 2, 2, 3, 7, 15]),
         6 => rng.one_of(&[0, 0, 0x10, 0x14, 0x90, 0xFF]),
         // ranges where there were none, or none where there were some
-        _ => rng.one_of(&[0, 1, 2, 32, 33, 0xFFFF_FFFF]),
+        7 => rng.one_of(&[0, 1, 2, 32, 33, 0xFFFF]),
+        // no number of sectors that would have fitted is wrong, whatever the code
+        _ if rng.percent(50) => rng.byte().into(),
+        _ => rng.one_of(&[0, 1, 128, 254, 255]),
     };
     value.min(FIELD_MOST[field as usize])
 }

@@ -4,10 +4,12 @@
 use crate::board::SECTOR_BYTES;
 use crate::makers::calls::{act, ask_places, call_on_table, look_around, random_address, walk};
 use crate::makers::chain::{random_chain, Chain};
+use crate::makers::fitted_cases::fitted_case;
 use crate::makers::ground::{any_drive, ground, limit_ground};
 use crate::makers::random_lists::cut;
 use crate::makers::rng::Rng;
 use crate::makers::script::Script;
+use crate::makers::spoil::FITTED_TO_TRY;
 use crate::makers::wide_cases::wide_case;
 use crate::makers::ALL_32_BITS;
 use crate::range::Range;
@@ -20,7 +22,8 @@ pub fn random_case(seed: u64, n: u64) -> Script {
     let mut script = Script::default();
     script.say(Line::Case(n));
     match rng.below(100) {
-        0..=82 => chain_case(&mut rng, &mut script),
+        0..=77 => chain_case(&mut rng, &mut script),
+        78..=82 => fitted_case(&mut rng, &mut script),
         83..=85 => wide_case(&mut rng, &mut script),
         86..=91 => table_case(&mut rng, &mut script),
         92..=94 => view_case(&mut rng, &mut script),
@@ -138,6 +141,9 @@ fn random_record(rng: &mut Rng, script: &Script) -> Record {
     if rng.once_in(4) {
         record.taken = rng.between(0, record.steps()) as u32;
     }
+    if rng.percent(40) {
+        record.fitted = rng.one_of(&FITTED_TO_TRY) as u8;
+    }
     record
 }
 
@@ -146,7 +152,7 @@ fn random_record(rng: &mut Rng, script: &Script) -> Record {
 fn give_ranges(rng: &mut Rng, memory: u64, record: &mut Record) {
     let parts = rng.one_of(&[1, 2, 2, 3, 4, 5, 7, 32]);
     let lengths = cut(rng, record.data_bytes(), parts);
-    record.ranges = lengths.len() as u32;
+    record.ranges = lengths.len() as u16;
     for (range, length) in record.list.iter_mut().zip(lengths) {
         let address = rng.between(0, memory.saturating_sub(length));
         *range = Range { address: address as u32, length: length as u32 };

@@ -7,6 +7,7 @@ pub mod cases;
 pub mod chain;
 pub mod decks;
 pub mod edges;
+pub mod fitted_cases;
 pub mod ground;
 pub mod lay;
 pub mod lines;

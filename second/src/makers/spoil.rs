@@ -12,6 +12,10 @@ use crate::makers::ALL_32_BITS;
 use crate::record::Record;
 use crate::trial::line::{field_of, Line, FIELD_MOST};
 
+/// What a record may say of sectors that would have fitted: both ends of a
+/// byte, and numbers between.
+pub const FITTED_TO_TRY: [u64; 7] = [0, 1, 77, 128, 163, 254, 255];
+
 /// Spoils one thing, calls, and in most cases puts it back.
 pub fn spoil_and_call(rng: &mut Rng, script: &mut Script) {
     let listed = listed_place(rng, script);
@@ -57,7 +61,7 @@ fn spoil_field(rng: &mut Rng, script: &mut Script) {
     let records = script.state.commands.min(32) + u64::from(rng.once_in(8));
     let place = rng.below(records.max(1));
     let record = script.state.table[place as usize];
-    let field = rng.one_of(&[0, 0, 0, 1, 2, 3, 3, 4, 4, 5, 6, 7]);
+    let field = rng.one_of(&[0, 0, 0, 1, 2, 3, 3, 4, 4, 5, 6, 7, 8]);
     let value = wrong_value(rng, script, &record, field);
     script.spoil(place, field, value);
     if rng.once_in(12) {
@@ -101,7 +105,9 @@ fn wrong_value(rng: &mut Rng, script: &Script, record: &Record, field: u64) -> u
         5 => u64::from(record.byte0 & 0xF0) | rng.one_of(&[0, 1, 1, 2, 2, 3, 7, 15]),
         6 => rng.one_of(&[0, 0, 0x10, 0x14, 0x90, 0xFF, taken % 256]),
         // Ranges where there were none, of length 0 or left from before.
-        _ => rng.one_of(&[0, 1, 2, 32, 33, ALL_32_BITS]),
+        7 => rng.one_of(&[0, 1, 2, 32, 33, 256, 257, 65_503, 65_535]),
+        // Any number of sectors that would have fitted: none is wrong.
+        _ => rng.one_of(&FITTED_TO_TRY),
     };
     value.min(FIELD_MOST[field as usize])
 }

@@ -5,10 +5,9 @@ use crate::makers::random_lists::address_past;
 use crate::makers::rng::Rng;
 use crate::makers::script::Script;
 use crate::makers::spoil::some_calls;
-use crate::makers::ALL_32_BITS;
 use crate::range::Range;
 use crate::record::Record;
-use crate::trial::line::{field_of, Line};
+use crate::trial::line::{field_of, Line, FIELD_MOST};
 
 const RANGES_FIELD: u64 = 7;
 
@@ -33,8 +32,7 @@ pub fn spoil_ranges(rng: &mut Rng, script: &mut Script, place: u64) {
     let record = script.state.table[place as usize];
     let right = u64::from(record.ranges);
     if rng.percent(30) {
-        let wrong = [0, right - 1, right + 1, right + 256, right + 65_536, 32, 33, ALL_32_BITS];
-        script.spoil(place, RANGES_FIELD, rng.one_of(&wrong).min(ALL_32_BITS));
+        script.spoil(place, RANGES_FIELD, wrong_number(rng, right));
     } else if right < 32 && rng.once_in(5) {
         claim_one_more(rng, script, place);
     } else {
@@ -43,6 +41,18 @@ pub fn spoil_ranges(rng: &mut Rng, script: &mut Script, place: u64) {
     some_calls(rng, script);
     if rng.percent(75) {
         mend(script, place, &record);
+    }
+}
+
+/// Another number of ranges. Some of the larger ones would be right in 8 bits,
+/// or in 15, or as a number with a sign.
+fn wrong_number(rng: &mut Rng, right: u64) -> u64 {
+    let few = [0, right - 1, right + 1, 32, 33];
+    let many = [right + 256, right + 0x8000, 255, 257, 65_536 - right, 65_535];
+    if rng.percent(60) {
+        rng.one_of(&few)
+    } else {
+        rng.one_of(&many).min(FIELD_MOST[RANGES_FIELD as usize])
     }
 }
 

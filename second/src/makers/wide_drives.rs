@@ -35,7 +35,7 @@ pub fn drive_of(sectors: u64) -> Option<Drive> {
 }
 
 /// The same, of any shape.
-fn some_drive_of(rng: &mut Rng, sectors: u64) -> Option<Drive> {
+pub fn some_drive_of(rng: &mut Rng, sectors: u64) -> Option<Drive> {
     let cylinders: Vec<u64> = cylinders_for(sectors).collect();
     if cylinders.is_empty() {
         return None;

@@ -24,6 +24,7 @@ pub fn digest_of_records(table: &[Record]) -> u64 {
         bytes.push(record.byte0);
         bytes.push(record.code);
         bytes.extend(record.ranges.to_be_bytes());
+        bytes.extend([record.fitted, record.unused_byte]);
         for (range, unused) in record.list.iter().zip(record.unused) {
             let length = u16::try_from(range.length).expect("an element's length has 16 bits");
             bytes.extend(range.address.to_be_bytes());

@@ -20,10 +20,10 @@ const BITS_16: u64 = 0xFFFF;
 const BITS_32: u64 = 0xFFFF_FFFF;
 
 /// The fields of a record before its ranges.
-pub const FIELDS: u64 = 8;
+pub const FIELDS: u64 = 9;
 /// The most that each of these fields may be, in order.
 pub const FIELD_MOST: [u64; FIELDS as usize] =
-    [BITS_32, BITS_32, BITS_32, BITS_32, BITS_16, BITS_8, BITS_8, BITS_32];
+    [BITS_32, BITS_32, BITS_32, BITS_32, BITS_16, BITS_8, BITS_8, BITS_16, BITS_8];
 
 #[derive(Clone, Debug, PartialEq, Eq)]
 pub enum Line {
@@ -48,7 +48,7 @@ pub enum Line {
         bytes: Vec<u8>,
     },
     Drive(Drive),
-    /// A record by its eight fields; its ranges are all 0.
+    /// A record by its nine fields; its ranges are all 0.
     Record {
         place: u64,
         record: Record,
@@ -181,7 +181,7 @@ fn record(fields: &[u64]) -> Result<Record, String> {
     Ok(record)
 }
 
-/// Sets one of the eight fields of a record, by its number in the format.
+/// Sets one of the nine fields of a record, by its number in the format.
 pub fn set_field(record: &mut Record, field: u64, value: u64) {
     match field {
         0 => record.iopb = value as u32,
@@ -191,12 +191,13 @@ pub fn set_field(record: &mut Record, field: u64, value: u64) {
         4 => record.count = value as u16,
         5 => record.byte0 = value as u8,
         6 => record.code = value as u8,
-        7 => record.ranges = value as u32,
-        _ => unreachable!("the format has fields 0 to 7"),
+        7 => record.ranges = value as u16,
+        8 => record.fitted = value as u8,
+        _ => unreachable!("the format has fields 0 to 8"),
     }
 }
 
-/// One of the eight fields of a record, by its number in the format.
+/// One of the nine fields of a record, by its number in the format.
 pub fn field_of(record: &Record, field: u64) -> u64 {
     match field {
         0 => u64::from(record.iopb),
@@ -207,7 +208,8 @@ pub fn field_of(record: &Record, field: u64) -> u64 {
         5 => u64::from(record.byte0),
         6 => u64::from(record.code),
         7 => u64::from(record.ranges),
-        _ => unreachable!("the format has fields 0 to 7"),
+        8 => u64::from(record.fitted),
+        _ => unreachable!("the format has fields 0 to 8"),
     }
 }
 

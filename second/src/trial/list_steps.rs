@@ -120,7 +120,7 @@ fn twice_rows(board: &Board, record: &Record, ranges: &[Range]) -> Vec<&'static 
 
 /// The same record with other ranges; with none it touches no data.
 fn with_ranges(record: &Record, ranges: &[Range]) -> Record {
-    let mut other = Record { ranges: ranges.len().max(1) as u32, ..*record };
+    let mut other = Record { ranges: ranges.len().max(1) as u16, ..*record };
     other.list[0] = Range::default();
     other.list[..ranges.len()].copy_from_slice(ranges);
     other

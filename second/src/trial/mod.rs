@@ -3,6 +3,7 @@
 
 pub mod answer;
 pub mod digest;
+pub mod fitted;
 pub mod last_head;
 pub mod line;
 pub mod list_steps;

@@ -8,6 +8,7 @@ use crate::pick::take_step;
 use crate::place::Place;
 use crate::record::{causes, Cause, Record, MOST_COMMANDS};
 use crate::trial::answer::Answer;
+use crate::trial::fitted;
 use crate::trial::last_head;
 use crate::trial::line::Line;
 use crate::trial::list_steps;
@@ -84,36 +85,41 @@ impl Tally {
         match answer {
             Answer::Quiet | Answer::Steps(_) => {}
             Answer::Case(_) => self.add("cases"),
-            Answer::Walk { word, reply } => self.see_walk(state, word, reply),
+            Answer::Walk { word, reply } => self.see_walk(before, state, word, reply),
             Answer::Pick { word, number } => {
-                self.add(&format!("{word} {number}"));
-                self.see_one(state, word, *number);
+                self.see_call(before, state, word, *number);
                 if let Line::Pick(place) | Line::LentPick(place) = line {
                     self.see_pick(&mut before.clone(), *place, *number);
                 }
-                self.see_causes(state, *number);
             }
             Answer::Picks(reply) => {
-                self.add(&format!("picks {}", reply.number));
-                self.see_one(state, "picks", reply.number);
+                self.see_call(before, state, "picks", reply.number);
                 if let Line::Picks(places) = line {
                     self.see_list(before.clone(), places, &reply.numbers);
                 }
                 self.see_finished(reply.number, reply.finished);
-                self.see_causes(state, reply.number);
             }
             Answer::Written(reply) => {
-                self.add(&format!("written {}", reply.number));
-                self.see_one(state, "written", reply.number);
+                self.see_call(before, state, "written", reply.number);
                 self.see_written(before.clone(), reply.steps);
                 self.see_finished(reply.number, reply.finished);
-                self.see_causes(state, reply.number);
             }
             Answer::Look { number, .. } => self.see_look(state, line, *number),
             Answer::Place { number, place } => self.see_place(state, line, *number, place),
             Answer::Fields(_) => self.add("fields"),
             Answer::View { number, .. } => self.add(&format!("view {number}")),
             Answer::Deck(reply) => self.see_deck(reply),
+        }
+    }
+
+    /// A call on the table, by its number.
+    fn see_call(&mut self, before: &State, state: &State, word: &str, number: u8) {
+        self.add(&format!("{word} {number}"));
+        self.see_one(state, word, number);
+        self.see_causes(state, number);
+        if number == 0 {
+            let in_use = &before.table[..before.commands as usize];
+            self.add_all(fitted::call_rows(in_use, word));
         }
     }
 
@@ -148,8 +154,10 @@ impl Tally {
         }
     }
 
-    fn see_walk(&mut self, state: &State, word: &str, reply: &WalkReply) {
+    fn see_walk(&mut self, before: &State, state: &State, word: &str, reply: &WalkReply) {
         self.add(&format!("{word} {}", reply.number));
+        let (number, commands) = (reply.number, reply.commands);
+        self.add_all(fitted::walk_rows(&before.table, &state.table, number, commands));
         if reply.number == 4 {
             let (last, earlier) = reply.reached.split_last().expect("an IOPB was reached");
             self.add(if earlier.contains(last) { LOOP } else { OVERLAP });
@@ -168,6 +176,7 @@ impl Tally {
             self.add_all(last_head::command_rows(drive, &fields, record));
             self.add_all(list_walks::command_rows(&state.board, &fields, record));
             self.add_all(wide::command_rows(&state.board, &fields, record));
+            self.add_all(fitted::command_rows(&state.board, &fields, record));
             if fields.next % 2 == 1 {
                 self.add(if fields.chen == 1 { ODD_CHAINED } else { ODD_ALONE });
             }
@@ -231,6 +240,7 @@ impl Tally {
 
     fn see_step(&mut self, state: &mut State, place: usize) {
         self.add_all(list_steps::step_rows(&state.board, &state.table[place]));
+        self.add_all(fitted::step_rows(&state.board, &state.table[place]));
         take_step(&mut state.board, &mut state.table[place]);
     }
 
@@ -342,6 +352,7 @@ fn all_names() -> Vec<String> {
     names.extend(list_walks::names().into_iter().map(String::from));
     names.extend(list_steps::names().into_iter().map(String::from));
     names.extend(wide::names());
+    names.extend(fitted::names());
     // The bench's sizes are right and it starts at 0, so 1 and 2 cannot come.
     names.extend(
         ["bench deck", "bench chain 3", "bench chain 4", "bench chain 5"].map(String::from),

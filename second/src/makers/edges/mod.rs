@@ -1,11 +1,16 @@
 //! Further cases made by hand, at every edge of document 01, of the last head's
-//! own maximum, of link lists and of 16 and 32 bits, and past it; each file here
-//! has one subject.
+//! own maximum, of link lists, of 16 and 32 bits and of how much would have
+//! fitted, and past it; each file here has one subject.
 
 pub mod closes;
 pub mod codes;
 pub mod conflicts;
 pub mod decks;
+pub mod fitted;
+pub mod fitted_closes;
+pub mod fitted_codes;
+pub mod fitted_ends;
+pub mod fitted_tables;
 pub mod last_head;
 pub mod last_head_sizes;
 pub mod list_codes;
@@ -64,6 +69,11 @@ pub fn all_edges(script: &mut Script) {
     wide_sizes::all(script);
     wide_ends::all(script);
     wide_tables::all(script);
+    fitted::all(script);
+    fitted_ends::all(script);
+    fitted_codes::all(script);
+    fitted_tables::all(script);
+    fitted_closes::all(script);
 }
 
 /// Memory of a length, with a pattern.

@@ -15,7 +15,7 @@ use crate::trial::line::Line;
 
 /// The largest image on one cylinder: 32,768 sectors, on 128 heads or on 256.
 pub const FEW_HEADS: Drive = short(0, 127, 255, 255);
-const MANY_HEADS: Drive = short(0, 255, 127, 127);
+pub const MANY_HEADS: Drive = short(0, 255, 127, 127);
 
 /// Data addresses and counts whose data ends at 65,536 and past it, where 128
 /// sectors are no byte in 16 bits.
@@ -78,7 +78,7 @@ pub fn all(script: &mut Script) {
 }
 
 /// A new case on a drive with an image of its size.
-fn case_on(script: &mut Script, drive: Drive, memory_bytes: u64) {
+pub fn case_on(script: &mut Script, drive: Drive, memory_bytes: u64) {
     script.case();
     script.say(Line::Drive(drive));
     script.say_all([memory(memory_bytes), image(drive.number_of_sectors())]);

@@ -10,19 +10,23 @@ no-links-requires c κs = search needs
 copied-requires : tie.Need-copied-requires
 copied-requires c κs = search needs
 
-early-code-requires : tie.Need-early-code-requires
-early-code-requires c κs = search needs
+early-verdict-requires : tie.Need-early-verdict-requires
+early-verdict-requires c κs = search needs
+
+final-verdict-requires : tie.Need-final-verdict-requires
+final-verdict-requires c κs = search needs
 
 first-sector-requires : tie.Need-first-sector-requires
 first-sector-requires c κs = search needs
 
-code-requires : tie.Need-code-requires
-code-requires c κs = search needs
-
 returns : tie.Need-returns
-returns c = let k = c .before .before .before in
+returns c =
+    let v = c .before in
+    let e = v .before in
+    let k = e .before in
     let a = k .before .before .before .args in
-    plain-made (a .memory .now) (a .at) (a .d) (k .copied .result) (c .before .before .early-code .result) (c .before .first-sector .result) (c .code .result) (k .before .no-links .result) (k .copied .ensures) (c .before .before .early-code .ensures) (k .before .no-links .ensures) (c .before .first-sector .ensures) (c .code .ensures)
+    plain-made (a .memory .now) (a .at) (a .d) (k .copied .result) (e .early-verdict .result) (c .first-sector .result) (k .before .no-links .result) (v .final-verdict .result)
+    (k .copied .ensures) (e .early-verdict .ensures) (k .before .no-links .ensures) (c .first-sector .ensures) (v .final-verdict .ensures)
 
 pub plain-record-at-spec : {M : Type 1} → statement M
 plain-record-at-spec =
@@ -30,7 +34,7 @@ plain-record-at-spec =
     (tie.spec
     no-links-requires
     copied-requires
-    early-code-requires
+    early-verdict-requires
+    final-verdict-requires
     first-sector-requires
-    code-requires
     returns)

@@ -1,9 +1,8 @@
 -- `command::sound::bad_transfer` meets its contract: each test decides one part of the "or".
 use mathlib.Core.Path.{_≡_, refl, sym, ap, _∙_}
 use mathlib.Core.Bool.{Bool, true, false, _&&_}
-use Prim.Native.Nat.{ℕ, _+_}
-use lib.Dec.{ltb}
 use borrow.Author.Tests.{eq-eqb, ne-eqb}
+use Rattle.meaning.specs.declared.End.{End}
 use Rattle.meaning.specs.Command.{writes}
 use Rattle.meaning.proofs.Rows.{or-first, or-second}
 use Rattle.meaning.proofs.Tests.{and-no}
@@ -28,30 +27,35 @@ returns-2 : tie.Need-returns-2
 unfolding badMove
 returns-2 c = sym (or-second _ _ (ne-eqb _ _ (c .before .before .if1 .left)) ∙ or-first _ _ (sym (c .before .bad-data .ensures) ∙ c .if2 .taken))
 
-sectors-requires : tie.Need-sectors-requires
-sectors-requires c κs = search needs
-
-past-end-requires : tie.Need-past-end-requires
-past-end-requires c κs = search needs
+drive-end-requires : tie.Need-drive-end-requires
+drive-end-requires c κs = search needs
 
 returns-3 : tie.Need-returns-3
 unfolding badMove
-returns-3 c = let a = c .before .before .before .before .before .before .before .args in
-    let past = ap (λ (n : ℕ). ltb n (a .r .sector + a .r .count)) (sym (c .before .before .sectors .ensures .0)) ∙ sym (c .before .past-end .ensures) ∙ c .if3 .taken in
-    sym (or-second _ _ (ne-eqb _ _ (c .before .before .before .before .before .if1 .left)) ∙ or-second _ _ (sym (c .before .before .before .before .bad-data .ensures) ∙ c .before .before .before .if2 .left) ∙ or-first _ _ past)
+returns-3 c =
+    let e = c .before .before in
+    let past = ap (λ (x : End). x .past) (sym (c .before .drive-end .ensures)) ∙ c .if3 .taken in
+    sym (or-second _ _ (ne-eqb _ _ (e .before .before .if1 .left)) ∙ or-second _ _ (sym (e .before .bad-data .ensures) ∙ e .if2 .left) ∙ or-first _ _ past)
 
 returns-4 : tie.Need-returns-4
 unfolding badMove
-returns-4 c = let a = c .before .before .before .before .before .before .before .before .before .args in
-    let past = ap (λ (n : ℕ). ltb n (a .r .sector + a .r .count)) (sym (c .before .before .before .before .sectors .ensures .0)) ∙ sym (c .before .before .before .past-end .ensures) ∙ c .before .before .if3 .left in
-    writes-by-command (a .r) (c .before .before .before .before .before .before .before .before .before .pre .0) ∙ sym (and-yes (writes (a .r))) ∙ ap (λ (b : Bool). writes (a .r) && b) (sym (c .before .if4 .taken))
-    ∙ sym (or-second _ _ (ne-eqb _ _ (c .before .before .before .before .before .before .before .if1 .left)) ∙ or-second _ _ (sym (c .before .before .before .before .before .before .bad-data .ensures) ∙ c .before .before .before .before .before .if2 .left) ∙ or-second _ _ past)
+returns-4 c =
+    let q = c .before .before in
+    let e = q .before .before in
+    let start = e .before .before .before .before in
+    let r = start .args .r in
+    let past = ap (λ (x : End). x .past) (sym (q .before .drive-end .ensures)) ∙ q .if3 .left in
+    writes-by-command r (start .pre .0) ∙ sym (and-yes (writes r)) ∙ ap (λ (b : Bool). writes r && b) (sym (c .before .if4 .taken))
+    ∙ sym (or-second _ _ (ne-eqb _ _ (e .before .before .if1 .left)) ∙ or-second _ _ (sym (e .before .bad-data .ensures) ∙ e .if2 .left) ∙ or-second _ _ past)
 
 returns-5 : tie.Need-returns-5
 unfolding badMove
-returns-5 c = let a = c .before .before .before .before .before .before .before .before .args in
-    let past = ap (λ (n : ℕ). ltb n (a .r .sector + a .r .count)) (sym (c .before .before .before .sectors .ensures .0)) ∙ sym (c .before .before .past-end .ensures) ∙ c .before .if3 .left in
-    sym (or-second _ _ (ne-eqb _ _ (c .before .before .before .before .before .before .if1 .left)) ∙ or-second _ _ (sym (c .before .before .before .before .before .bad-data .ensures) ∙ c .before .before .before .before .if2 .left) ∙ or-second _ _ past ∙ ap (λ (b : Bool). writes (a .r) && b) (c .if4 .left) ∙ and-no (writes (a .r)))
+returns-5 c =
+    let q = c .before in
+    let e = q .before .before in
+    let r = e .before .before .before .before .args .r in
+    let past = ap (λ (x : End). x .past) (sym (q .before .drive-end .ensures)) ∙ q .if3 .left in
+    sym (or-second _ _ (ne-eqb _ _ (e .before .before .if1 .left)) ∙ or-second _ _ (sym (e .before .bad-data .ensures) ∙ e .if2 .left) ∙ or-second _ _ past ∙ ap (λ (b : Bool). writes r && b) (c .if4 .left) ∙ and-no (writes r))
 
 pub bad-transfer-spec : {M : Type 1} → statement M
 bad-transfer-spec =
@@ -60,8 +64,7 @@ bad-transfer-spec =
     returns
     bad-data-requires
     returns-2
-    sectors-requires
-    past-end-requires
+    drive-end-requires
     returns-3
     returns-4
     returns-5)
