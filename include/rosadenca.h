@@ -149,11 +149,11 @@ typedef struct rosadenca_record {
     uint32_t taken;   /* steps taken */
     uint16_t ranges;  /* how many ranges its link list has; 0 where it has none, or where the walk did not read it */
     uint16_t count;   /* how many sectors */
+    uint8_t unused;   /* 0 after the walk; nothing looks at it */
     uint8_t byte0;    /* the copied byte 0 */
     uint8_t code;     /* the code that its close will post */
     uint8_t fitted;   /* how many sectors would have fitted, 255 if more; 0 where nothing is told. Its close posts it in byte 3, as it
                          stands here and whatever the code is: Code 18, Step 9 */
-    uint8_t unused;   /* 0 after the walk; nothing looks at it */
     rosadenca_link list[ROSADENCA_MOST_LINKS]; /* the ranges, in list order; those past `ranges` are 0 and 0 after the walk */
 } rosadenca_record;
 
@@ -233,10 +233,10 @@ ROSADENCA_AT(rosadenca_record, sector, 8);
 ROSADENCA_AT(rosadenca_record, taken, 12);
 ROSADENCA_AT(rosadenca_record, ranges, 16);
 ROSADENCA_AT(rosadenca_record, count, 18);
-ROSADENCA_AT(rosadenca_record, byte0, 20);
-ROSADENCA_AT(rosadenca_record, code, 21);
-ROSADENCA_AT(rosadenca_record, fitted, 22);
-ROSADENCA_AT(rosadenca_record, unused, 23);
+ROSADENCA_AT(rosadenca_record, unused, 20);
+ROSADENCA_AT(rosadenca_record, byte0, 21);
+ROSADENCA_AT(rosadenca_record, code, 22);
+ROSADENCA_AT(rosadenca_record, fitted, 23);
 ROSADENCA_AT(rosadenca_record, list, 24);
 ROSADENCA_HOLDS(sizeof(rosadenca_walked) == 16);
 ROSADENCA_AT(rosadenca_walked, number, 0);

@@ -54,11 +54,11 @@ pub struct Record {
     pub taken: u32,
     pub ranges: u16,
     pub count: u16,
+    /// 0 after the walk; nothing looks at it.
+    pub unused: u8,
     pub byte0: u8,
     pub code: u8,
     pub fitted: u8,
-    /// 0 after the walk; nothing looks at it.
-    pub unused: u8,
     pub list: [Link; 32],
 }
 

@@ -83,13 +83,13 @@ pub struct Record {
     pub ranges: u16,
     // how many sectors
     pub count: u16,
+    // the walk makes it 0, and nothing looks at it: no byte of a table is left unset
+    pub unused: u8,
     // the copied byte 0
     pub byte0: u8,
     // the code that its close will post, and how many sectors would have fitted, which it posts beside it
     pub code: u8,
     pub fitted: u8,
-    // the walk makes it 0, and nothing looks at it: no byte of a table is left unset
-    pub unused: u8,
     // the ranges, as the walk copied them, before elements of zeros
     pub list: [Link; 32],
 }
