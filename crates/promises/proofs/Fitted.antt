@@ -34,7 +34,7 @@ unfolding fittedOf
 fitted-exactly-when c d m =
     by-place
     (with-numbers 0 (questions c d m)
-    (0 ∷ 0 ∷ 0 ∷ 0 ∷ 0 ∷ 0 ∷ 0 ∷ 0 ∷ onDrive c d m ∷ 0 ∷ 0 ∷ 0 ∷ 0 ∷ inMemory c d m ∷ []))
+    (0 ∷ 0 ∷ 0 ∷ 0 ∷ 0 ∷ 0 ∷ 0 ∷ 0 ∷ onDrive c d ∷ 0 ∷ 0 ∷ 0 ∷ 0 ∷ inMemory c m ∷ []))
 
 -- a row tells nothing, or gives 10H, or 4BH
 abbrev Quiet : Row → Type 0
@@ -105,6 +105,6 @@ on-drive c d none =
     }
 
 pub one-at-least : OneAtLeast
-one-at-least c d m none =
+one-at-least c d none =
     let below = number-below d (placeAt (c .cylinder) (c .head) (c .sector)) (on-drive c d none) in
     omega (arith, below)

@@ -104,7 +104,7 @@ module _ (c : Copied) (d : Drive) (m : List ℕ) where
   tests = map (λ r. r .applies) (commandRows c ++ (transferRows c d ++ dataRows c (length m) (linksIn m c)))
 
   abbrev meanings : List (Type 0)
-  meanings = map (λ k. k .holds) (commandTable c ++ (transferTable c d ++ (listTable c d m ++ (PastMemory c d m ⇒ 0x4B ∷ []))))
+  meanings = map (λ k. k .holds) (commandTable c ++ (transferTable c d ++ (listTable c m ++ (PastMemory c m ⇒ 0x4B ∷ []))))
 
   pub questions : Asked tests meanings
   questions =

@@ -66,7 +66,7 @@ linksOfCommand m c = linksIn m c
 abbrev pub Data : List ℕ → Copied → List Range
 Data m c = rangesOf (gathers c) (c .address) (c .count) (linksOfCommand m c)
 
-module _ (c : Copied) (d : Drive) (m : List ℕ) where
+module _ (c : Copied) (m : List ℕ) where
   -- what its data is asked: first its list, and then the end of memory
   abbrev pub listTable : List Case
   listTable =
@@ -81,9 +81,10 @@ module _ (c : Copied) (d : Drive) (m : List ℕ) where
   abbrev pub dataTable : List Case
   dataTable = listTable ++ (PastMemory ⇒ 0x4B ∷ Otherwise ⇒ 0x00 ∷ [])
 
+module _ (c : Copied) (d : Drive) (m : List ℕ) where
   -- the one after the other
   abbrev pub codeTable : List Case
-  codeTable = commandTable c ++ (transferTable c d ++ dataTable)
+  codeTable = commandTable c ++ (transferTable c d ++ dataTable c m)
 
   abbrev pub CodeExactlyWhen : ℕ → Type 0
   CodeExactlyWhen code = (codeOf c d (length m) (linksIn m c) ≡ code) ↔ ((k : ℕ) × (FirstAt codeTable k × GivesAt codeTable k code))

@@ -22,23 +22,23 @@ use Rattle.promises.specs.Codes.{commandTable, placeTable, PastDrive, Fo
 abbrev pub silent : List Case → List Case
 silent cases = map (λ k. k .holds ⇒ 0) cases
 
+-- the drive's sectors from the first one on; the whole 512-byte pieces from the data address to the end of memory, and nothing where the
+-- command has a link list; each as one byte
+abbrev pub onDrive : Copied → Drive → ℕ
+onDrive c d = min (sectorCount d - firstSector d c) 255
+
+abbrev pub inMemory : Copied → List ℕ → ℕ
+inMemory c m = cond (gathers c) 0 (min ((length m - c .address) / 512) 255)
+
 module _ (c : Copied) (d : Drive) (m : List ℕ) where
-  -- the drive's sectors from the first one on; the whole 512-byte pieces from the data address to the end of memory, and nothing where the
-  -- command has a link list; each as one byte
-  abbrev pub onDrive : ℕ
-  onDrive = min (sectorCount d - firstSector d c) 255
-
-  abbrev pub inMemory : ℕ
-  inMemory = cond (gathers c) 0 (min ((length m - c .address) / 512) 255)
-
   -- the cases of the code's table, in its order, with what is told in the place of each code
   abbrev pub fittedTable : List Case
   fittedTable =
       silent (commandTable c ++ placeTable c d)
-      ++ (PastDrive c d ⇒ onDrive
+      ++ (PastDrive c d ⇒ onDrive c d
       ∷ Forbidden c d ⇒ 0
-      ∷ silent (listTable c d m)
-      ++ (PastMemory c d m ⇒ inMemory
+      ∷ silent (listTable c m)
+      ++ (PastMemory c m ⇒ inMemory c m
       ∷ Otherwise ⇒ 0
       ∷ []))
 
@@ -78,4 +78,4 @@ MemoryTells = (n address : ℕ) → address ≤ n → TellsWhatFits (λ count. m
 -- a command whose code is given at the end of the drive begins on the drive, so that one sector at least would have fitted: of two commands
 -- with 10H, the one with a cylinder above its maximum is known by its 0
 abbrev pub OneAtLeast : Type 0
-OneAtLeast = (c : Copied) (d : Drive) (m : List ℕ) → NoneOf (placeTable c d) → 1 ≤ onDrive c d m
+OneAtLeast = (c : Copied) (d : Drive) → NoneOf (placeTable c d) → 1 ≤ onDrive c d

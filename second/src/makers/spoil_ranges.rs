@@ -49,11 +49,9 @@ pub fn spoil_ranges(rng: &mut Rng, script: &mut Script, place: u64) {
 fn wrong_number(rng: &mut Rng, right: u64) -> u64 {
     let few = [0, right - 1, right + 1, 32, 33];
     let many = [right + 256, right + 0x8000, 255, 257, 65_536 - right, 65_535];
-    if rng.percent(60) {
-        rng.one_of(&few)
-    } else {
-        rng.one_of(&many).min(FIELD_MOST[RANGES_FIELD as usize])
-    }
+    let number = if rng.percent(60) { rng.one_of(&few) } else { rng.one_of(&many) };
+    // what is spoiled already may be the largest number that there is
+    number.min(FIELD_MOST[RANGES_FIELD as usize])
 }
 
 /// One range more, of length 0, at the end of memory or just past it.
