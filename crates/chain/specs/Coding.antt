@@ -7,6 +7,7 @@ use lib.Dec.{eqb}
 use Rattle.meaning.specs.declared.Copied.{Copied}
 use Rattle.meaning.specs.declared.Link.{Link}
 use Rattle.meaning.specs.declared.Drive.{Drive}
+use Rattle.meaning.specs.declared.End.{End}
 use Rattle.meaning.specs.First.{Row, firstOf, toldOf, _↝_, _telling_}
 use Rattle.meaning.specs.Each.{someOf, sumOf}
 use Rattle.meaning.specs.Sectors.{sectorBytes}
@@ -23,6 +24,10 @@ toRead c early n = cond (eqb early 0 && gathers c) (cond (listOutside c n) 0 (li
 -- a code, and what is told beside it
 abbrev pub fixedAs : ℕ → ℕ → Verdict
 fixedAs code fitted = record { code = code; fitted = fitted }
+
+-- the code of an end that is passed, and what its test tells
+abbrev pub endedAs : ℕ → End → Verdict
+endedAs code end = fixedAs code (asByte (end .fitted))
 
 -- what the first row fixes that applies; 00 and nothing where none does
 unfoldable pub verdictOf : List Row → Verdict

@@ -15,7 +15,7 @@ ghost use Rattle.meaning.specs.Ranges.{bytes};
 ghost use Rattle.meaning.specs.Ends.{driveEnd, memoryEnd};
 ghost use lib.ListN.{take};
 ghost use Rattle.meaning.specs.Code.{copiedAt, linkCount, transferRows, chained, odd, gathers, commandIn, nop, read, write, firstSector};
-ghost use Rattle.chain.specs.Coding.{toRead, fixedAs, verdictOf, earlyRows, plainRows, listCode, lateVerdict};
+ghost use Rattle.chain.specs.Coding.{toRead, fixedAs, endedAs, verdictOf, earlyRows, plainRows, listCode, lateVerdict};
 
 // What the walk fixes of a command: its code, and how many sectors would have fitted.
 pub struct Verdict {
@@ -28,6 +28,13 @@ fn fixed(code: u8, fitted: u8) -> Verdict
     ensures { λ v. ⌜ v ≡ fixedAs code fitted ⌝ }
 {
     Verdict { code, fitted }
+}
+
+// The code of an end that is passed, and what its test tells.
+fn ended(code: u8, end: End) -> Verdict
+    ensures { λ v. ⌜ v ≡ endedAs code end ⌝ }
+{
+    fixed(code, ends::as_byte(end.fitted))
 }
 
 // The fields of an IOPB that the walk keeps.
@@ -148,7 +155,7 @@ fn transfer_verdict(c: Copied, d: Drive) -> Verdict
     }
     let end = drive_end(c, d);
     if end.past {
-        return fixed(0x10, ends::as_byte(end.fitted));
+        return ended(0x10, end);
     }
     if forbidden(c, d) {
         return fixed(0x90, 0);
@@ -211,7 +218,7 @@ fn plain_verdict(c: Copied, memory: u64) -> Verdict
     }
     let end = memory_end(c, memory);
     if end.past {
-        return fixed(0x4B, ends::as_byte(end.fitted));
+        return ended(0x4B, end);
     }
     fixed(0x00, 0)
 }

@@ -2,7 +2,6 @@
 use crate::Outcome;
 use crate::Report;
 use crate::laid;
-use chain::links;
 use chain::walk;
 use meaning::Drive;
 use meaning::Record;
@@ -12,27 +11,6 @@ ghost use lib.ListN.{take, drop, replicate};
 ghost use Rattle.meaning.specs.Store.{lent};
 ghost use Rattle.meaning.specs.Bench.{noRecords, outcomeOf};
 ghost use Rattle.deck.specs.Meant.{Reports, codesOf, chainOutcome};
-
-// A table that holds no command yet.
-fn empty_table() -> [Record; 32]
-    ensures { λ t. ⌜ t ≡ noRecords ⌝ }
-{
-    let list = links::no_links();
-    let none = Record {
-        iopb: 0,
-        address: 0,
-        sector: 0,
-        taken: 0,
-        ranges: 0,
-        count: 0,
-        byte0: 0,
-        code: 0,
-        fitted: 0,
-        unused: 0,
-        list,
-    };
-    [none; 32]
-}
 
 // The codes of the commands, in front of zeros.
 fn codes_of(table: [Record; 32], commands: usize) -> [u8; 32]
@@ -54,7 +32,7 @@ fn codes_of(table: [Record; 32], commands: usize) -> [u8; 32]
 fn run_chain(memory: &mut [u8], image: &mut [u8], d: Drive) -> Report
     ensures { λ r. ⌜ Reports (chainOutcome d (lent (now (memory .entry)) (now (image .entry)))) r ⌝ }
 {
-    let w = walk::walk(memory, image, d, 0, empty_table());
+    let w = walk::walk(memory, image, d, 0, tables::no_records());
     let walked = w.walked;
     let number = walked.number;
     if number != 0 {

@@ -4,7 +4,6 @@ use board::pick::PickedTaken;
 use board::pick::Sight;
 use board::run::RanTaken;
 use board::table;
-use chain::links;
 use chain::walk;
 use chain::walk::MOST_COMMANDS;
 use command::sound;
@@ -24,27 +23,6 @@ ghost use Rattle.board.specs.Sight.{sightOf, withPicked};
 ghost use Rattle.chain.specs.Records.{filledAt};
 ghost use Rattle.firmware.specs.Laid.{over, copiedOut, withSteps};
 
-// A table of no records.
-pub(crate) fn blank() -> [Record; 32]
-    ensures { λ t. ⌜ t ≡ noRecords ⌝ }
-{
-    let list = links::no_links();
-    let none = Record {
-        iopb: 0,
-        address: 0,
-        sector: 0,
-        taken: 0,
-        ranges: 0,
-        count: 0,
-        byte0: 0,
-        code: 0,
-        fitted: 0,
-        unused: 0,
-        list,
-    };
-    [none; 32]
-}
-
 // How many records of a run are laid back: all 32, or none on a refusal.
 pub(crate) fn changed(number: u8) -> usize
     ensures { λ n. ⌜ n ≡ cond (eqb number 0) mostCommands 0 ⌝ }
@@ -57,7 +35,7 @@ pub(crate) fn load_first(table: &[Record], n: usize) -> [Record; 32]
     requires { ⌜ (n ≤ length (now table)) × (n ≤ mostCommands) ⌝ }
     ensures { λ t. ⌜ t ≡ over n (now (table .entry)) noRecords ⌝ }
 {
-    let mut t = blank();
+    let mut t = tables::no_records();
     let mut k = 0;
     while k < n {
         t[k] = table[k];

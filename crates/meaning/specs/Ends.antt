@@ -1,5 +1,5 @@
 -- The two tests for an end, of the drive and of memory. Each answers whether the end is passed, and how many whole sectors would have
--- fitted from the same start on (Code 9, 11 and 17). Nothing else says where an end is.
+-- fitted from the same start on (Code 9, 11 and 17). Nothing else says where sectors or data pass an end.
 use Prim.Native.Nat.{ℕ, _+_, _-_, _/_, min}
 use lib.Dec.{ltb}
 use Rattle.meaning.specs.declared.Drive.{Drive}

@@ -1,7 +1,7 @@
 -- A pick names a place in the table and takes one step there: its number, and what it leaves.
 -- d is the drive, n the number of commands, p the place, and s the state: table, memory and image.
 use mathlib.Core.Path.{_≡_}
-use Prim.Native.Nat.{ℕ, _+_, _*_}
+use Prim.Native.Nat.{ℕ, _*_}
 use mathlib.Core.Bool.{Bool, not, _&&_, _||_, cond}
 use mathlib.Core.List.{List, [], _∷_}
 use lib.ListN.{length, getD, set, take}

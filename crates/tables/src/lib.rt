@@ -4,6 +4,7 @@ use board::pick;
 use board::pick::Sight;
 use board::run;
 use board::table;
+use chain::links;
 use command::sound;
 use command::touch;
 use meaning::Drive;
@@ -13,6 +14,7 @@ use meaning::Record;
 ghost use mathlib.Core.Path.{_≡_};
 ghost use Prim.Native.Nat.{_≤_, _<_};
 ghost use Rattle.meaning.specs.State.{stateOf, mostCommands};
+ghost use Rattle.meaning.specs.Bench.{noRecords};
 ghost use Rattle.meaning.specs.Pick.{PickGives};
 ghost use Rattle.meaning.specs.Run.{RunGives, byPicks, asWritten};
 ghost use Rattle.board.specs.Changes.{tableWith};
@@ -20,6 +22,27 @@ ghost use Rattle.board.specs.Sight.{sightOf};
 
 // How many records a table by value has: the most commands of a chain.
 const RECORDS: usize = chain::walk::MOST_COMMANDS;
+
+// A table that holds no command yet.
+pub fn no_records() -> [Record; 32]
+    ensures { λ t. ⌜ t ≡ noRecords ⌝ }
+{
+    let list = links::no_links();
+    let none = Record {
+        iopb: 0,
+        address: 0,
+        sector: 0,
+        taken: 0,
+        ranges: 0,
+        count: 0,
+        byte0: 0,
+        code: 0,
+        fitted: 0,
+        unused: 0,
+        list,
+    };
+    [none; 32]
+}
 
 // The table with these steps taken.
 fn table_with(table: [Record; 32], taken: [u32; 32]) -> [Record; 32]

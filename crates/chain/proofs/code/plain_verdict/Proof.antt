@@ -3,9 +3,7 @@ use mathlib.Core.Path.{sym, ap, _∙_}
 use borrow.Author.Needs.{needs}
 use borrow.Author.Tests.{eq-eqb, ne-eqb}
 use Rattle.meaning.specs.declared.End.{End}
-use Rattle.meaning.specs.Ends.{asByte}
-use Rattle.chain.specs.Coding.{fixedAs}
-use Rattle.chain.proofs.Verdicts.{passed, stopped, none-left}
+use Rattle.chain.proofs.Verdicts.{passed, stopped, passed-end, none-left}
 use Rattle.chain.proofs.code.plain_verdict.Statement.{statement}
 use Rattle.chain.proofs.code.plain_verdict.Tie as tie
 
@@ -30,30 +28,24 @@ returns-2 c =
 memory-end-requires : tie.Need-memory-end-requires
 memory-end-requires c κs = search needs
 
-as-byte-requires : tie.Need-as-byte-requires
-as-byte-requires c κs = search needs
-
-fixed-requires-3 : tie.Need-fixed-requires-3
-fixed-requires-3 c κs = search needs
+ended-requires : tie.Need-ended-requires
+ended-requires c κs = search needs
 
 returns-3 : tie.Need-returns-3
 returns-3 c =
-    let e = c .before .before in
+    let e = c .before in
     let b = e .before .before in
-    let end = e .before .memory-end .ensures in
-    c .fixed3 .ensures ∙ ap (fixedAs 0x4B) (c .before .as-byte .ensures ∙ ap (λ (x : End). asByte (x .fitted)) end)
-    ∙ sym (passed _ _ (ne-eqb _ _ (b .before .before .if1 .left))
-    ∙ passed _ _ (sym (b .before .has-list .ensures) ∙ b .if2 .left)
-    ∙ stopped _ _ (ap (λ (x : End). x .past) (sym end) ∙ e .if3 .taken))
+    c .ended .ensures ∙ passed-end _ _ _ _ (e .before .memory-end .ensures) (e .if3 .taken)
+    ∙ sym (passed _ _ (ne-eqb _ _ (b .before .before .if1 .left)) ∙ passed _ _ (sym (b .before .has-list .ensures) ∙ b .if2 .left))
 
-fixed-requires-4 : tie.Need-fixed-requires-4
-fixed-requires-4 c κs = search needs
+fixed-requires-3 : tie.Need-fixed-requires-3
+fixed-requires-3 c κs = search needs
 
 returns-4 : tie.Need-returns-4
 returns-4 c =
     let e = c .before in
     let b = e .before .before in
-    c .fixed4 .ensures
+    c .fixed3 .ensures
     ∙ sym (passed _ _ (ne-eqb _ _ (b .before .before .if1 .left))
     ∙ passed _ _ (sym (b .before .has-list .ensures) ∙ b .if2 .left)
     ∙ passed _ _ (ap (λ (x : End). x .past) (sym (e .before .memory-end .ensures)) ∙ e .if3 .left)
@@ -69,8 +61,7 @@ plain-verdict-spec =
     fixed-requires-2
     returns-2
     memory-end-requires
-    as-byte-requires
-    fixed-requires-3
+    ended-requires
     returns-3
-    fixed-requires-4
+    fixed-requires-3
     returns-4)

@@ -6,10 +6,9 @@ use lib.ListN.{drop}
 use borrow.Author.Needs.{needs}
 use borrow.Author.Tests.{lt-ltb, le-ltb, eq-eqb, ne-eqb}
 use Rattle.meaning.specs.declared.End.{End}
-use Rattle.meaning.specs.Ends.{asByte}
 use Rattle.meaning.specs.Code.{transferRows}
-use Rattle.chain.specs.Coding.{fixedAs, verdictOf}
-use Rattle.chain.proofs.Verdicts.{passed, stopped, none-left}
+use Rattle.chain.specs.Coding.{verdictOf}
+use Rattle.chain.proofs.Verdicts.{passed, stopped, passed-end, none-left}
 use Rattle.chain.proofs.code.transfer_verdict.Statement.{statement}
 use Rattle.chain.proofs.code.transfer_verdict.Tie as tie
 
@@ -98,33 +97,28 @@ returns-5 c = c .fixed5 .ensures ∙ sym (passed-4 (c .before .before .before) �
 drive-end-requires : tie.Need-drive-end-requires
 drive-end-requires c κs = search needs
 
-as-byte-requires : tie.Need-as-byte-requires
-as-byte-requires c κs = search needs
-
-fixed-requires-6 : tie.Need-fixed-requires-6
-fixed-requires-6 c κs = search needs
+ended-requires : tie.Need-ended-requires
+ended-requires c κs = search needs
 
 returns-6 : tie.Need-returns-6
 returns-6 c =
     let b = c .before in
-    let end = b .before .before .drive-end .ensures in
-    c .fixed6 .ensures ∙ ap (fixedAs 0x10) (b .as-byte .ensures ∙ ap (λ (e : End). asByte (e .fitted)) end)
-    ∙ sym (passed-5 (b .before .before .before) ∙ stopped _ _ (ap (λ (e : End). e .past) (sym end) ∙ b .before .if6 .taken))
+    c .ended .ensures ∙ passed-end _ _ _ _ (b .before .drive-end .ensures) (b .if6 .taken) ∙ sym (passed-5 (b .before .before))
 
 forbidden-requires : tie.Need-forbidden-requires
 forbidden-requires c κs = search needs
 
+fixed-requires-6 : tie.Need-fixed-requires-6
+fixed-requires-6 c κs = search needs
+
+returns-7 : tie.Need-returns-7
+returns-7 c = c .fixed6 .ensures ∙ sym (passed-6 (c .before .before .before) ∙ stopped _ _ (sym (c .before .before .forbidden .ensures) ∙ c .before .if7 .taken))
+
 fixed-requires-7 : tie.Need-fixed-requires-7
 fixed-requires-7 c κs = search needs
 
-returns-7 : tie.Need-returns-7
-returns-7 c = c .fixed7 .ensures ∙ sym (passed-6 (c .before .before .before) ∙ stopped _ _ (sym (c .before .before .forbidden .ensures) ∙ c .before .if7 .taken))
-
-fixed-requires-8 : tie.Need-fixed-requires-8
-fixed-requires-8 c κs = search needs
-
 returns-8 : tie.Need-returns-8
-returns-8 c = c .fixed8 .ensures ∙ sym (passed-7 (c .before) ∙ none-left)
+returns-8 c = c .fixed7 .ensures ∙ sym (passed-7 (c .before) ∙ none-left)
 
 pub transfer-verdict-spec : {M : Type 1} → statement M
 transfer-verdict-spec =
@@ -142,11 +136,10 @@ transfer-verdict-spec =
     fixed-requires-5
     returns-5
     drive-end-requires
-    as-byte-requires
-    fixed-requires-6
+    ended-requires
     returns-6
     forbidden-requires
-    fixed-requires-7
+    fixed-requires-6
     returns-7
-    fixed-requires-8
+    fixed-requires-7
     returns-8)

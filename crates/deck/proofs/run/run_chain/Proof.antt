@@ -26,10 +26,10 @@ gives : (c : tie.After-walk) → let a = entry c .args in WalkGives (a .d) 0 (st
 gives c =
     let a = entry c .args in
     subst (λ (t : List Record). WalkGives (a .d) 0 (stateOf (a .memory .now) (a .image .now) t) (c .walk .result .walked) (c .walk .result .table))
-    (c .before .empty-table .ensures) (c .walk .ensures)
+    (c .before .no-records .ensures) (c .walk .ensures)
 
-empty-table-requires : tie.Need-empty-table-requires
-empty-table-requires c κs = search needs
+no-records-requires : tie.Need-no-records-requires
+no-records-requires c κs = search needs
 
 walk-requires : tie.Need-walk-requires
 walk-requires c κs = search needs
@@ -90,7 +90,7 @@ pub run-chain-spec : {M : Type 1} → statement M
 run-chain-spec =
     tie.close
     (tie.spec
-    empty-table-requires
+    no-records-requires
     walk-requires
     same-length
     same-length-2

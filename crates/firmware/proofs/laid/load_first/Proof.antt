@@ -1,6 +1,6 @@
 -- `firmware::laid::load_first` meets its contract: a walk of its code, by hand, with its loop. Each turn reads one record of the lent
 -- table and writes it at the same place of a local array, which stands apart, record by record, while the loop runs. All that the proof
--- knows of `blank` is that it meets its contract.
+-- knows of `no_records` is that it meets its contract.
 use mathlib.Core.Path.{_≡_, refl, sym, ap, subst}
 use Prim.Native.Nat.{ℕ, _≤_, _<_, _^_}
 use native.Mathlib.Omega.{arith}
@@ -55,10 +55,10 @@ use Rattle.hand.proofs.Arrays as array
 use Rattle.firmware.specs.Laid.{over}
 use Rattle.firmware.proofs.Records.{R, recordSize, recordVals, a-record, next-fits, records-fit}
 use Rattle.firmware.proofs.Laying.{over-next, length-over}
-use Rattle.firmware.proofs.laid.blank as blank
-use Rattle.firmware.proofs.laid.blank.Symbol as blank-def
-use Rattle.firmware.proofs.laid.blank.Symbol.{name as #blank}
-use Rattle.firmware.proofs.laid.blank.Met as blank-thm
+use Rattle.tables.proofs.no_records as blank
+use Rattle.tables.proofs.no_records.Symbol as blank-def
+use Rattle.tables.proofs.no_records.Symbol.{name as #blank}
+use Rattle.tables.proofs.no_records.Met as blank-thm
 use Rattle.firmware.proofs.laid.load_first.Key.{name as #load-first}
 use Rattle.firmware.proofs.laid.load_first as f
 use Rattle.firmware.proofs.laid.load_first.Statement as stated
@@ -117,7 +117,7 @@ module _ {M : Type 1} (𝓤 : URA M) (H : Heap 𝓤) (A : Atoms 𝓤) (W : Given
       suffices ! _ (ends-at 𝓤 H A f.ended stayed (f.clauses 𝓤 H A mem run) W (((κ, tt), (q, tt), tt, args, vals), tt) v ys (tt, (tt, tt)) (tt, (tt, tt))) $ says ! e $
       nothing ! $ move ! (2 ∷ 0 ∷ []) $ join ! $ frame ! $ nothing ! $ nothing ! $ fjoin ! $ nothing ! $ fjoin ! $ done !
 
-  -- what the contract of `blank` binds, and that the walk has what it asks
+  -- what the contract of `no_records` binds, and that the walk has what it asks
   abbrev to-blank : Blank 𝓤 H A mem run .Ghost
   to-blank = ((tt, tt, tt, tt, tt), tt)
 
@@ -132,7 +132,7 @@ module _ {M : Type 1} (𝓤 : URA M) (H : Heap 𝓤) (A : Atoms 𝓤) (W : Given
     abbrev l₃ : ℕ
     l₃ = ls .1 .1 .1 .0
 
-    -- the locals in a turn: the parameters, k and what `blank` gave; the array's place is empty
+    -- the locals in a turn: the parameters, k and what `no_records` gave; the array's place is empty
     abbrev In : ℕ → List (Item 𝓤)
     In k = put 𝓤 H A (pos 0 3) (‵ ftrue) (locals E (room ∷ holds sv ∷ holds (vint w64 n) ∷ room ∷ holds (vint w64 k) ∷ holds bv ∷ []) [])
 
@@ -222,4 +222,4 @@ load-first-spec 𝓤 H 𝓜 𝓖 𝓡 =
     (λ κs. (slice-vals, (uint-vals w64, tt))) (λ κs. (shr-slice-tells (named 0) (κs .0) R, (uint-tells w64, tt))) code.env #load-first code.function (code.unfolded 𝓤 H 𝓜 𝓡)
     (λ κs qs bounds a _ are. needs 𝓤 ((a .1 .0 ≤ length (a .0 .now)) × (a .1 .0 ≤ mostCommands)) _ (λ within.
     walk 𝓤 H A W (𝓜 .mem) (𝓡 .run) (κs .0) (qs .0) (a .0 .ptr .0) (a .0 .ptr .1) (a .0 .name) (a .0 .now) (a .1 .0) (are .0 .0 .1) (are .1 .0 .1) within (tablesOf 𝓤 H 𝓜 (tables 𝓤 H 𝓜 𝓡 code.env))
-    (cited 𝓤 H (Blank 𝓤 H A (𝓜 .mem) (𝓡 .run)) 𝓜 𝓡 code.env #blank blank-def.routine code.calls-firmware·laid·blank (blank-thm.met 𝓤 H 𝓜 𝓖 𝓡))))
+    (cited 𝓤 H (Blank 𝓤 H A (𝓜 .mem) (𝓡 .run)) 𝓜 𝓡 code.env #blank blank-def.routine code.calls-tables·no-records (blank-thm.met 𝓤 H 𝓜 𝓖 𝓡))))
