@@ -32,6 +32,7 @@ static void lay_iopb(uint8_t *iopb, rosadenca_disk_place first, const wish *w)
 {
     memset(iopb, 0, ROSADENCA_IOPB_BYTES);
     iopb[0x00] = w->command;
+    iopb[0x05] = w->unit;
     two_bytes(iopb + 0x08, w->count);
     two_bytes(iopb + 0x0A, first.cylinder);
     iopb[0x0C] = first.head;
@@ -44,12 +45,12 @@ static void lay_iopb(uint8_t *iopb, rosadenca_disk_place first, const wish *w)
     }
 }
 
-bool lay_chain(uint8_t *memory, rosadenca_drive drive, const wish *wishes, size_t count)
+bool lay_chain(uint8_t *memory, const rosadenca_drives *drives, const wish *wishes, size_t count)
 {
     for (size_t k = 0; k < count; k++) {
         uint8_t *iopb = memory + IOPB_SPACING * k;
         /* an IOPB wants cylinder, head and sector of the first sector, not its number */
-        rosadenca_placed first = rosadenca_place(drive, wishes[k].sector);
+        rosadenca_placed first = rosadenca_place(drives->units[wishes[k].unit], wishes[k].sector);
         if (first.number != ROSADENCA_ACCEPTED)
             return false;
         lay_iopb(iopb, first.place, &wishes[k]);

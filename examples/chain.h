@@ -7,6 +7,7 @@
 /* What a host wants done by one command. */
 typedef struct {
     uint8_t command;            /* ROSADENCA_READ_DATA or ROSADENCA_WRITE_DATA */
+    uint8_t unit;               /* the unit, 0 to 3 */
     uint32_t sector;            /* the number of the first sector */
     uint16_t count;             /* how many sectors */
     uint32_t address;           /* where in memory the data lies, or where its link list is to lie */
@@ -18,9 +19,9 @@ typedef struct {
 /* IOPBs lie 32 bytes apart from address 0 on: they have 30 bytes, and an even address. */
 enum { IOPB_SPACING = 32 };
 
-/* Lays one IOPB for each wish, chained one to the next, and the link list of each that has one. Whether the drive has the first sector
-   of every wish. */
-bool lay_chain(uint8_t *memory, rosadenca_drive drive, const wish *wishes, size_t count);
+/* Lays one IOPB for each wish, chained one to the next, and the link list of each that has one. Whether every wish's drive has its first
+   sector. */
+bool lay_chain(uint8_t *memory, const rosadenca_drives *drives, const wish *wishes, size_t count);
 
 /* Names another cylinder in the IOPB that is laid at a place of the chain. */
 void lay_cylinder(uint8_t *memory, size_t place, uint16_t cylinder);

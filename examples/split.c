@@ -23,13 +23,13 @@ enum {
 };
 
 static const wish wishes[] = {
-    {ROSADENCA_READ_DATA, 20, 2, PAGE_LIST_AT, page, PIECES, "read sectors 20 and 21 to the three pieces"},
-    {ROSADENCA_WRITE_DATA, 30, 2, PAGE_LIST_AT, page, PIECES, "write the three pieces to sectors 30 and 31"},
-    {ROSADENCA_READ_DATA, 20, 1, SHORT_LIST_AT, too_short, SHORT_PIECES,
+    {ROSADENCA_READ_DATA, 0, 20, 2, PAGE_LIST_AT, page, PIECES, "read sectors 20 and 21 to the three pieces"},
+    {ROSADENCA_WRITE_DATA, 0, 30, 2, PAGE_LIST_AT, page, PIECES, "write the three pieces to sectors 30 and 31"},
+    {ROSADENCA_READ_DATA, 0, 20, 1, SHORT_LIST_AT, too_short, SHORT_PIECES,
      "read sector 20 to 300 and 200 bytes, which is a mistake: a sector has 512"},
-    {ROSADENCA_READ_DATA, SECTORS - 1, 2, PAGE_LIST_AT, page, PIECES,
+    {ROSADENCA_READ_DATA, 0, SECTORS - 1, 2, PAGE_LIST_AT, page, PIECES,
      "read two sectors from sector 55 on to the three pieces, a mistake: it is the last"},
-    {ROSADENCA_READ_DATA, 20, 2, LATE_LIST_AT, too_late, LATE_PIECES,
+    {ROSADENCA_READ_DATA, 0, 20, 2, LATE_LIST_AT, too_late, LATE_PIECES,
      "read sectors 20 and 21 to 400H and 1E02H, a mistake: 510 bytes are left there"},
 };
 enum { WISHES = sizeof wishes / sizeof wishes[0] };
@@ -54,7 +54,7 @@ bool play_split(lent *host)
 {
     tell_pieces();
     memset(host->memory, 0, MEMORY_BYTES);
-    if (!lay_chain(host->memory, host->drive, wishes, WISHES)) {
+    if (!lay_chain(host->memory, &host->disks.drives, wishes, WISHES)) {
         fputs("host: a wish names a sector that the disk has not\n", stderr);
         return false;
     }
@@ -69,7 +69,7 @@ bool play_split(lent *host)
     tell_memory(host, page[0].address);
     tell_memory(host, page[1].address + ROSADENCA_SECTOR_BYTES - page[0].length);
     puts("On the disk there is now:");
-    tell_sector(host, 30);
-    tell_sector(host, 31);
+    tell_sector(host, 0, 30);
+    tell_sector(host, 0, 31);
     return true;
 }

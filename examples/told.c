@@ -1,7 +1,6 @@
 /* The calls of the board, each with what comes of it in words. */
 #include "told.h"
 
-#include "disk.h"
 #include "words.h"
 
 #include <inttypes.h>
@@ -9,8 +8,7 @@
 
 bool tell_walk(lent *host, const wish *wishes)
 {
-    rosadenca_walked walked = rosadenca_walk(host->memory, MEMORY_BYTES, host->image, DISK_BYTES, host->drive, 0, host->table,
-                                             ROSADENCA_MOST_COMMANDS);
+    rosadenca_walked walked = rosadenca_walk_lent(&host->disks, 0, host->table, ROSADENCA_MOST_COMMANDS);
     host->commands = walked.commands;
     if (walked.number != ROSADENCA_ACCEPTED) {
         fprintf(stderr, "host: the walk was refused with number %d: %s\n", walked.number, number_in_words(walked.number));
@@ -25,8 +23,7 @@ bool tell_walk(lent *host, const wish *wishes)
 
 void tell_pick(lent *host, size_t place)
 {
-    uint8_t number = rosadenca_pick(host->memory, MEMORY_BYTES, host->image, DISK_BYTES, host->drive, host->table,
-                                    ROSADENCA_MOST_COMMANDS, host->commands, place);
+    uint8_t number = rosadenca_pick_lent(&host->disks, host->table, ROSADENCA_MOST_COMMANDS, host->commands, place);
     if (number != ROSADENCA_ACCEPTED) {
         printf("  pick %zu: refused with number %d: %s. Nothing has changed.\n", place, number, number_in_words(number));
         return;
@@ -39,8 +36,8 @@ void tell_pick(lent *host, size_t place)
 
 bool tell_rest(lent *host)
 {
-    rosadenca_ran ran = rosadenca_run_written(host->memory, MEMORY_BYTES, host->image, DISK_BYTES, host->drive, host->table,
-                                              ROSADENCA_MOST_COMMANDS, host->commands, UINT64_MAX);
+    rosadenca_ran ran =
+        rosadenca_run_written_lent(&host->disks, host->table, ROSADENCA_MOST_COMMANDS, host->commands, UINT64_MAX);
     if (ran.number != ROSADENCA_ACCEPTED || !ran.finished) {
         fprintf(stderr, "host: the run was refused with number %d: %s\n", ran.number, number_in_words(ran.number));
         return false;
@@ -69,16 +66,19 @@ static void print_text(const uint8_t *bytes, size_t length)
     puts("\"");
 }
 
-void tell_sector(const lent *host, uint32_t sector)
+void tell_sector(const lent *host, uint8_t unit, uint32_t sector)
 {
-    uint8_t number = rosadenca_look_number(host->image, DISK_BYTES, host->drive, sector);
-    rosadenca_part part = rosadenca_look(host->image, DISK_BYTES, host->drive, sector);
+    uint8_t number = rosadenca_look_number_lent(&host->disks, unit, sector);
+    rosadenca_part part = rosadenca_look_lent(&host->disks, unit, sector);
+    printf("  sector %" PRIu32, sector);
+    if (host->disks.drives.units[1].present)
+        printf(" of unit %d", unit);
     if (number != ROSADENCA_ACCEPTED) {
-        printf("  sector %" PRIu32 ": refused with number %d: %s\n", sector, number, number_in_words(number));
+        printf(": refused with number %d: %s\n", number, number_in_words(number));
         return;
     }
-    printf("  sector %" PRIu32 ": ", sector);
-    print_text(host->image + part.at, part.length);
+    printf(": ");
+    print_text(host->disks.image[unit] + part.at, part.length);
 }
 
 void tell_memory(const lent *host, uint32_t address)

@@ -6,11 +6,10 @@
 
 enum { MEMORY_BYTES = 8192 };
 
-/* All that a host lends to the board. */
+/* All that a host lends to the board: its memory, images and drives in one struct, and the table. */
 typedef struct {
     uint8_t memory[MEMORY_BYTES];
-    uint8_t *image;
-    rosadenca_drive drive;
+    rosadenca_lent disks;
     rosadenca_record table[ROSADENCA_MOST_COMMANDS];
     size_t commands;
 } lent;
@@ -27,8 +26,8 @@ bool tell_rest(lent *host);
 /* Reads each command's status in its own IOPB, where the board has posted it. */
 void tell_statuses(const lent *host);
 
-/* Looks at a sector of the image, and shows the text at its start. */
-void tell_sector(const lent *host, uint32_t sector);
+/* Looks at a sector of a unit, and shows the text at its start. The unit is named where there are several. */
+void tell_sector(const lent *host, uint8_t unit, uint32_t sector);
 
 /* Shows the text at an address of memory. */
 void tell_memory(const lent *host, uint32_t address);

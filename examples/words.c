@@ -10,7 +10,7 @@ const char *number_in_words(uint8_t number)
 {
     switch (number) {
     case ROSADENCA_ACCEPTED: return "accepted";
-    case ROSADENCA_SIZES_WRONG: return "memory, image or table have the wrong size, or the last head is longer than the others";
+    case ROSADENCA_SIZES_WRONG: return "memory, an image or the table has the wrong size, or a last head is longer than the others";
     case ROSADENCA_ADDRESS_ODD: return "the first address is odd";
     case ROSADENCA_IOPB_OUTSIDE: return "an IOPB is not all in memory";
     case ROSADENCA_IOPB_SHARED: return "two IOPBs share a byte";
@@ -20,6 +20,7 @@ const char *number_in_words(uint8_t number)
     case ROSADENCA_NO_SUCH_PLACE: return "there is no such place in the table";
     case ROSADENCA_TABLE_SPOILED: return "the table is spoiled";
     case ROSADENCA_NO_SUCH_SECTOR: return "there is no such sector";
+    case ROSADENCA_UNIT_ABSENT: return "the unit is absent";
     default: return "a number that the rules do not have";
     }
 }
@@ -42,7 +43,7 @@ const char *code_in_words(const rosadenca_iopb *iopb)
     case ROSADENCA_CODE_SUCCESS: return "it went well";
     case ROSADENCA_CODE_NEXT_ODD: return "the next address is odd";
     case ROSADENCA_CODE_UNIMPLEMENTED: return "the board has no such command";
-    case ROSADENCA_CODE_NOT_READY: return "there is no such drive";
+    case ROSADENCA_CODE_NOT_READY: return "the unit is absent, so no drive is ready";
     case ROSADENCA_CODE_COUNT_ZERO: return "the count of sectors is zero";
     case ROSADENCA_CODE_CYLINDER: return past_drive(iopb) ? "past the end of the drive" : "the cylinder is above its maximum";
     case ROSADENCA_CODE_HEAD: return "the head is too high";

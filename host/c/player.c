@@ -10,15 +10,15 @@
 #include <string.h>
 
 /* The limits of the format. A list of picks has the most numbers, and is the longest line. */
-enum { MOST_MEMORY = 66560, MOST_IMAGE = 16778240, RECORDS = 40, FIELDS = 9, MOST_NUMBERS = 256, LINE_BYTES = 2048 };
+enum { MOST_MEMORY = 66560, MOST_IMAGE = 16778240, RECORDS = 40, FIELDS = 10, MOST_NUMBERS = 256, LINE_BYTES = 2048 };
 
 /* The calls that are not lent use the first 32 records. */
 enum { BY_VALUE = ROSADENCA_MOST_COMMANDS };
 
-/* The state of a case. */
-static uint8_t memory[MOST_MEMORY], image[MOST_IMAGE];
-static size_t memory_length, image_length;
-static rosadenca_drive drive;
+/* The state of a case. What is lent points into these bytes; the lines `image`, `disk`, `drive` and `there` set the chosen unit. */
+static uint8_t memory[MOST_MEMORY], images[ROSADENCA_UNITS][MOST_IMAGE];
+static rosadenca_lent board;
+static size_t chosen;
 static rosadenca_record table[RECORDS];
 static size_t commands, lent;
 
@@ -69,26 +69,38 @@ static uint32_t digest_table(void)
         so_far = digest_number(so_far, table[k].code, 1);
         so_far = digest_number(so_far, table[k].ranges, 2);
         so_far = digest_number(so_far, table[k].fitted, 1);
-        so_far = digest_number(so_far, table[k].unused, 1);
+        so_far = digest_number(so_far, table[k].unit, 1);
         so_far = digest_ranges(so_far, &table[k]);
     }
     return so_far;
 }
 
-/* The end of most lines: the digests of memory, image and table. */
+/* The four images, end to end: also those of absent units, which a call must leave alone. */
+static uint32_t digest_images(void)
+{
+    uint32_t so_far = of_nothing;
+    for (size_t unit = 0; unit < ROSADENCA_UNITS; unit++)
+        so_far = digest(so_far, images[unit], board.image_length[unit]);
+    return so_far;
+}
+
+/* The end of most lines: the digests of memory, images and table. */
 static void print_digests(void)
 {
-    printf(" %08" PRIx32 " %08" PRIx32 " %08" PRIx32 "\n", digest(of_nothing, memory, memory_length),
-           digest(of_nothing, image, image_length), digest_table());
+    printf(" %08" PRIx32 " %08" PRIx32 " %08" PRIx32 "\n", digest(of_nothing, memory, board.memory_length), digest_images(),
+           digest_table());
 }
 
 /* The lines that set the state. Each says whether the line is in the format, as far as this program's own memory depends on it. */
 
 static bool play_case(void)
 {
-    memory_length = image_length = commands = 0;
+    rosadenca_drive open_drive = {0, 0, 0, 0, false, true};
+    board = rosadenca_one_drive(memory, 0, images[0], 0, open_drive);
+    for (size_t unit = 1; unit < ROSADENCA_UNITS; unit++)
+        board.image[unit] = images[unit];
+    chosen = commands = 0;
     lent = BY_VALUE;
-    memset(&drive, 0, sizeof drive);
     memset(table, 0, sizeof table);
     printf("case %" PRIu64 "\n", number[0]);
     return true;
@@ -98,9 +110,17 @@ static bool play_memory(void)
 {
     if (number[0] > MOST_MEMORY)
         return false;
-    memory_length = number[0];
-    for (size_t k = 0; k < memory_length; k++)
+    board.memory_length = number[0];
+    for (size_t k = 0; k < board.memory_length; k++)
         memory[k] = (uint8_t)(number[1] + number[2] * k);
+    return true;
+}
+
+static bool play_unit(void)
+{
+    if (number[0] >= ROSADENCA_UNITS)
+        return false;
+    chosen = number[0];
     return true;
 }
 
@@ -108,9 +128,10 @@ static bool play_image(void)
 {
     if (number[0] > MOST_IMAGE)
         return false;
-    image_length = number[0];
-    for (size_t k = 0; k < image_length; k++)
-        image[k] = (uint8_t)(number[1] + number[2] * (k / ROSADENCA_SECTOR_BYTES) + number[3] * (k % ROSADENCA_SECTOR_BYTES));
+    board.image_length[chosen] = number[0];
+    for (size_t k = 0; k < number[0]; k++)
+        images[chosen][k] =
+            (uint8_t)(number[1] + number[2] * (k / ROSADENCA_SECTOR_BYTES) + number[3] * (k % ROSADENCA_SECTOR_BYTES));
     return true;
 }
 
@@ -124,18 +145,25 @@ static bool put_bytes(uint8_t *run, size_t length)
     return true;
 }
 
-static bool play_put(void) { return put_bytes(memory, memory_length); }
+static bool play_put(void) { return put_bytes(memory, board.memory_length); }
 
-static bool play_disk(void) { return put_bytes(image, image_length); }
+static bool play_disk(void) { return put_bytes(images[chosen], board.image_length[chosen]); }
 
 static bool play_drive(void)
 {
-    drive.cylinder = (uint16_t)number[0];
-    drive.head = (uint8_t)number[1];
-    drive.sector = (uint8_t)number[2];
-    drive.last_sector = (uint8_t)number[3];
-    drive.write_protected = number[4] != 0;
+    rosadenca_drive *drive = &board.drives.units[chosen];
+    drive->cylinder = (uint16_t)number[0];
+    drive->head = (uint8_t)number[1];
+    drive->sector = (uint8_t)number[2];
+    drive->last_sector = (uint8_t)number[3];
+    drive->write_protected = number[4] != 0;
     return true;
+}
+
+static bool play_there(void)
+{
+    board.drives.units[chosen].present = number[0] != 0;
+    return number[0] <= 1;
 }
 
 static bool set_field(uint64_t place, uint64_t field, uint64_t value)
@@ -153,6 +181,7 @@ static bool set_field(uint64_t place, uint64_t field, uint64_t value)
     case 6: record->code = (uint8_t)value; return true;
     case 7: record->ranges = (uint16_t)value; return true;
     case 8: record->fitted = (uint8_t)value; return true;
+    case 9: record->unit = (uint8_t)value; return true;
     default: return false;
     }
 }
@@ -195,8 +224,7 @@ static bool play_lent(void)
 
 static bool walk(const char *word, size_t records)
 {
-    rosadenca_walked walked =
-        rosadenca_walk(memory, memory_length, image, image_length, drive, (uint32_t)number[0], table, records);
+    rosadenca_walked walked = rosadenca_walk_lent(&board, (uint32_t)number[0], table, records);
     commands = walked.commands;
     printf("%s %d %zu", word, walked.number, walked.commands);
     print_digests();
@@ -209,7 +237,7 @@ static bool play_lent_walk(void) { return walk("lentwalk", lent); }
 
 static bool pick(const char *word, size_t records)
 {
-    uint8_t reply = rosadenca_pick(memory, memory_length, image, image_length, drive, table, records, commands, number[0]);
+    uint8_t reply = rosadenca_pick_lent(&board, table, records, commands, number[0]);
     printf("%s %d", word, reply);
     print_digests();
     return true;
@@ -224,8 +252,7 @@ static bool play_picks(void)
     uint8_t picks[MOST_NUMBERS];
     for (size_t k = 0; k < numbers; k++)
         picks[k] = (uint8_t)number[k];
-    rosadenca_ran ran = rosadenca_run_picks(memory, memory_length, image, image_length, drive, table, BY_VALUE, commands, picks,
-                                                 numbers);
+    rosadenca_ran ran = rosadenca_run_picks_lent(&board, table, BY_VALUE, commands, picks, numbers);
     printf("picks %d %" PRIu64 " %" PRIu64 " %d", ran.number, ran.steps, ran.refused, ran.finished);
     print_digests();
     return true;
@@ -233,8 +260,7 @@ static bool play_picks(void)
 
 static bool play_written(void)
 {
-    rosadenca_ran ran = rosadenca_run_written(memory, memory_length, image, image_length, drive, table, BY_VALUE, commands,
-                                              number[0]);
+    rosadenca_ran ran = rosadenca_run_written_lent(&board, table, BY_VALUE, commands, number[0]);
     printf("written %d %" PRIu64 " %d", ran.number, ran.steps, ran.finished);
     print_digests();
     return true;
@@ -248,16 +274,20 @@ static bool play_steps(void)
 
 static bool play_look(void)
 {
-    uint32_t sector = (uint32_t)number[0];
-    rosadenca_part part = rosadenca_look(image, image_length, drive, sector);
-    printf("look %d %zu %08" PRIx32 "\n", rosadenca_look_number(image, image_length, drive, sector), part.length,
-           digest(of_nothing, image + part.at, part.length));
-    return true;
+    uint8_t unit = (uint8_t)number[0];
+    uint32_t sector = (uint32_t)number[1];
+    rosadenca_part part = rosadenca_look_lent(&board, unit, sector);
+    /* a part of a unit that has no image here would be the board's mistake: its length is told, and nothing is read */
+    size_t length = unit < ROSADENCA_UNITS ? part.length : 0;
+    const uint8_t *image = images[unit < ROSADENCA_UNITS ? unit : 0];
+    printf("look %d %zu %08" PRIx32 "\n", rosadenca_look_number_lent(&board, unit, sector), part.length,
+           digest(of_nothing, image + part.at, length));
+    return number[0] <= UINT8_MAX;
 }
 
 static bool play_place(void)
 {
-    rosadenca_placed placed = rosadenca_place(drive, (uint32_t)number[0]);
+    rosadenca_placed placed = rosadenca_place(board.drives.units[chosen], (uint32_t)number[0]);
     printf("place %d %d %d %d\n", placed.number, placed.place.cylinder, placed.place.head, placed.place.sector);
     return true;
 }
@@ -273,16 +303,16 @@ static void print_fields(rosadenca_iopb v)
 static bool play_fields(void)
 {
     uint32_t at = (uint32_t)number[0];
-    size_t later = at % 2 != 0 && memory_length > 0 ? 1 : 0;
+    size_t later = at % 2 != 0 && board.memory_length > 0 ? 1 : 0;
     fputs("fields", stdout);
-    print_fields(rosadenca_view(memory + later, memory_length - later, at - at % 2));
+    print_fields(rosadenca_view(memory + later, board.memory_length - later, at - at % 2));
     return true;
 }
 
 static bool play_view(void)
 {
     uint32_t at = (uint32_t)number[0];
-    rosadenca_iopb v = rosadenca_view(memory, memory_length, at);
+    rosadenca_iopb v = rosadenca_view(memory, board.memory_length, at);
     printf("view %d", v.number);
     print_fields(v);
     return true;
@@ -296,12 +326,12 @@ static const struct {
 } words[] = {
     {"case", 1, 1, play_case},         {"memory", 3, 3, play_memory},       {"put", 2, 65, play_put},
     {"image", 4, 4, play_image},       {"disk", 2, 65, play_disk},          {"drive", 5, 5, play_drive},
-    {"record", 10, 10, play_record},   {"range", 4, 4, play_range},         {"spoil", 3, 3, play_spoil},
+    {"record", 11, 11, play_record},   {"range", 4, 4, play_range},         {"spoil", 3, 3, play_spoil},
     {"commands", 1, 1, play_commands}, {"lent", 1, 1, play_lent},           {"walk", 1, 1, play_walk},
     {"pick", 1, 1, play_pick},         {"picks", 0, 256, play_picks},       {"written", 1, 1, play_written},
-    {"look", 1, 1, play_look},         {"fields", 1, 1, play_fields},       {"view", 1, 1, play_view},
+    {"look", 2, 2, play_look},         {"fields", 1, 1, play_fields},       {"view", 1, 1, play_view},
     {"lentwalk", 1, 1, play_lent_walk}, {"lentpick", 1, 1, play_lent_pick}, {"steps", 0, 0, play_steps},
-    {"place", 1, 1, play_place},
+    {"place", 1, 1, play_place},       {"unit", 1, 1, play_unit},           {"there", 1, 1, play_there},
 };
 
 /* Plays one line, which is taken apart. Whether it is in the format. */

@@ -1,9 +1,13 @@
 //! What the archive declares: its structs, laid out as C lays them out, and its functions. A test
 //! holds every field and every parameter here to the firmware's source and to the C header.
 
-/// The drive: its maximum cylinder, head and sector and the maximum sector of its last head, counted
-/// from zero, and the protect mark. Where all heads are equal, `last_sector` is the same as `sector`;
-/// where it is above, every call that takes the drive gives 1.
+/// How many units may have a drive: 0 to 3. A unit above them is always absent.
+pub const UNITS: usize = 4;
+
+/// A drive: its maximum cylinder, head and sector and the maximum sector of its last head, counted
+/// from zero, the protect mark, and whether it is there. Where all heads are equal, `last_sector` is
+/// the same as `sector`; where it is above, every call that takes the drive gives 1. Of a drive that is
+/// not there nothing else is looked at, but by the call for a place, which does not ask for that.
 #[repr(C)]
 #[derive(Clone, Copy, Debug, Default, PartialEq, Eq)]
 pub struct Drive {
@@ -12,6 +16,14 @@ pub struct Drive {
     pub sector: u8,
     pub last_sector: u8,
     pub protected: bool,
+    pub present: bool,
+}
+
+/// The drives of the units, in order.
+#[repr(C)]
+#[derive(Clone, Copy, Debug, Default, PartialEq, Eq)]
+pub struct LentDrives {
+    pub units: [Drive; 4],
 }
 
 /// A place on a drive, as an IOPB names it.
@@ -42,9 +54,10 @@ pub struct Link {
     pub unused: u16,
 }
 
-/// One accepted command, as the walk leaves it in the table. It has a link list exactly if `ranges`
-/// is not 0; `list` then holds its ranges, as the walk copied them. Its close posts `code`, and beside
-/// it `fitted`: how many sectors would have fitted, 255 if more, and 0 where the walk tells none.
+/// One accepted command, as the walk leaves it in the table. Its sectors are those of its unit. It has a
+/// link list exactly if `ranges` is not 0; `list` then holds its ranges, as the walk copied them. Its
+/// close posts `code`, and beside it `fitted`: how many sectors would have fitted, 255 if more, and 0
+/// where the walk tells none.
 #[repr(C)]
 #[derive(Clone, Copy, Debug, Default, PartialEq, Eq)]
 pub struct Record {
@@ -54,8 +67,8 @@ pub struct Record {
     pub taken: u32,
     pub ranges: u16,
     pub count: u16,
-    /// 0 after the walk; nothing looks at it.
-    pub unused: u8,
+    /// 0 to 7 after the walk; a transfer on one that is absent gives 9.
+    pub unit: u8,
     pub byte0: u8,
     pub code: u8,
     pub fitted: u8,
@@ -105,7 +118,7 @@ pub struct Iopb {
     pub sector: u8,
 }
 
-/// A part of the image: so many bytes from a byte on.
+/// A part of a unit's image: so many bytes from a byte on.
 #[repr(C)]
 #[derive(Clone, Copy, Debug, Default, PartialEq, Eq)]
 pub struct Part {
@@ -118,9 +131,15 @@ extern "C" {
     pub(crate) fn rosadenca_walk(
         memory: *const u8,
         memory_length: usize,
-        image: *const u8,
-        image_length: usize,
-        drive: Drive,
+        image0: *const u8,
+        image0_length: usize,
+        image1: *const u8,
+        image1_length: usize,
+        image2: *const u8,
+        image2_length: usize,
+        image3: *const u8,
+        image3_length: usize,
+        drives: LentDrives,
         start: u32,
         table: *mut Record,
         table_length: usize,
@@ -128,9 +147,15 @@ extern "C" {
     pub(crate) fn rosadenca_pick(
         memory: *mut u8,
         memory_length: usize,
-        image: *mut u8,
-        image_length: usize,
-        drive: Drive,
+        image0: *mut u8,
+        image0_length: usize,
+        image1: *mut u8,
+        image1_length: usize,
+        image2: *mut u8,
+        image2_length: usize,
+        image3: *mut u8,
+        image3_length: usize,
+        drives: LentDrives,
         table: *mut Record,
         table_length: usize,
         commands: usize,
@@ -139,9 +164,15 @@ extern "C" {
     pub(crate) fn rosadenca_run_picks(
         memory: *mut u8,
         memory_length: usize,
-        image: *mut u8,
-        image_length: usize,
-        drive: Drive,
+        image0: *mut u8,
+        image0_length: usize,
+        image1: *mut u8,
+        image1_length: usize,
+        image2: *mut u8,
+        image2_length: usize,
+        image3: *mut u8,
+        image3_length: usize,
+        drives: LentDrives,
         table: *mut Record,
         table_length: usize,
         commands: usize,
@@ -151,24 +182,44 @@ extern "C" {
     pub(crate) fn rosadenca_run_written(
         memory: *mut u8,
         memory_length: usize,
-        image: *mut u8,
-        image_length: usize,
-        drive: Drive,
+        image0: *mut u8,
+        image0_length: usize,
+        image1: *mut u8,
+        image1_length: usize,
+        image2: *mut u8,
+        image2_length: usize,
+        image3: *mut u8,
+        image3_length: usize,
+        drives: LentDrives,
         table: *mut Record,
         table_length: usize,
         commands: usize,
         budget: u64,
     ) -> Ran;
     pub(crate) fn rosadenca_look_number(
-        image: *const u8,
-        image_length: usize,
-        drive: Drive,
+        image0: *const u8,
+        image0_length: usize,
+        image1: *const u8,
+        image1_length: usize,
+        image2: *const u8,
+        image2_length: usize,
+        image3: *const u8,
+        image3_length: usize,
+        drives: LentDrives,
+        unit: u8,
         sector: u32,
     ) -> u8;
     pub(crate) fn rosadenca_look(
-        image: *const u8,
-        image_length: usize,
-        drive: Drive,
+        image0: *const u8,
+        image0_length: usize,
+        image1: *const u8,
+        image1_length: usize,
+        image2: *const u8,
+        image2_length: usize,
+        image3: *const u8,
+        image3_length: usize,
+        drives: LentDrives,
+        unit: u8,
         sector: u32,
     ) -> Part;
     pub(crate) fn rosadenca_place(drive: Drive, sector: u32) -> Placed;

@@ -1,11 +1,12 @@
 //! A board written in the ordinary way in Rust, with the same replies and no proofs: what the
 //! firmware's speed is measured against, so it is written for speed as far as it stays easy to read.
-//! It works in the lent table and copies none, tests sizes and table once a call, moves sectors that
-//! follow each other by one copy, works out once in a run what each command touches, and never asks
-//! twice there whether one command waits for another. A link list is weighed once a call, for number 9
-//! and for where its data lies; only where two commands lie over each other by that are their ranges
-//! tested, pair by pair. Its calls are not inlined, as the archive's cannot be, so that no caller's own
-//! numbers are worked into them. The tests hold it to the second program.
+//! It works in the lent table and copies none, tests sizes and table once a call and works out there how
+//! many sectors each unit has to read and to write, moves sectors that follow each other by one copy,
+//! works out once in a run what each command touches, and never asks twice there whether one command
+//! waits for another. A link list is weighed once a call, for number 9 and for where its data lies; only
+//! where two commands lie over each other by that are their ranges tested, pair by pair. Its calls are
+//! not inlined, as the archive's cannot be, so that no caller's own numbers are worked into them. The
+//! tests hold it to the second program.
 //!
 //! Tried and left out: each field of the records in an array of its own, and for each place a mask of
 //! the earlier ones that it conflicts with, which the compiler works out several at a time. The run
@@ -14,7 +15,8 @@
 
 mod lists;
 
-use crate::declared::{Drive, Link, Part, Place, Placed, Ran, Record, Walked};
+use crate::archive::{Images, ImagesMut};
+use crate::declared::{Drive, LentDrives, Link, Part, Place, Placed, Ran, Record, Walked, UNITS};
 use crate::field::Fields;
 use lists::meet;
 use std::ops::Range;
@@ -22,6 +24,7 @@ use std::ops::Range;
 const MEMORY_LIMIT: usize = 65_536;
 const IMAGE_LIMIT: usize = 16_777_216;
 const SECTOR: usize = 512;
+const MOST_SECTORS: u32 = (IMAGE_LIMIT / SECTOR) as u32;
 const MOST_COMMANDS: usize = 32;
 const IOPB: usize = 30;
 const WRITE_DATA: u8 = 1;
@@ -45,39 +48,54 @@ fn maxima_right(drive: Drive) -> bool {
     drive.last_sector <= drive.sector
 }
 
-fn image_right(image: &[u8], drive: Drive) -> bool {
-    maxima_right(drive)
-        && image.len() <= IMAGE_LIMIT
-        && image.len() as u64 == SECTOR as u64 * sectors(drive)
+fn image_right(image: usize, drive: Drive) -> bool {
+    maxima_right(drive) && image <= IMAGE_LIMIT && image as u64 == SECTOR as u64 * sectors(drive)
 }
 
-fn sizes_right(memory: &[u8], image: &[u8], drive: Drive, table: &[Record]) -> bool {
-    memory.len() <= MEMORY_LIMIT && image_right(image, drive) && table.len() >= MOST_COMMANDS
+/// A drive whose maxima are all 0 and that is not protected: what a unit has that is absent.
+const NO_DRIVE: Drive =
+    Drive { cylinder: 0, head: 0, sector: 0, last_sector: 0, protected: false, present: false };
+
+fn drive_of(drives: &LentDrives, unit: u8) -> &Drive {
+    let drive = drives.units.get(usize::from(unit));
+    drive.filter(|drive| drive.present).unwrap_or(&NO_DRIVE)
 }
 
-/// What a transfer must keep within, worked out once for a call.
+/// What a transfer must keep within, worked out once for a call: the bytes of memory, and how many
+/// sectors of each unit can be read and written. There are none to read on an absent unit, and none to
+/// write on a protected one either.
 struct Bounds {
     memory: u64,
-    sectors: u64,
-    protected: bool,
+    readable: [u32; UNITS],
+    writable: [u32; UNITS],
 }
 
 impl Bounds {
-    fn new(memory: &[u8], drive: Drive) -> Bounds {
-        Bounds { memory: memory.len() as u64, sectors: sectors(drive), protected: drive.protected }
+    /// None where memory, or the image of a unit that is there, has the wrong size.
+    #[inline(always)]
+    fn new(memory: usize, images: [usize; UNITS], drives: &LentDrives) -> Option<Bounds> {
+        if memory > MEMORY_LIMIT {
+            return None;
+        }
+        let (mut readable, mut writable) = ([0; UNITS], [0; UNITS]);
+        for (unit, drive) in drives.units.iter().enumerate().filter(|(_, drive)| drive.present) {
+            if !image_right(images[unit], *drive) {
+                return None;
+            }
+            readable[unit] = (images[unit] / SECTOR) as u32;
+            writable[unit] = if drive.protected { 0 } else { readable[unit] };
+        }
+        Some(Bounds { memory: memory as u64, readable, writable })
     }
 
     fn hold_data(&self, address: u32, count: u16) -> bool {
         u64::from(address) + SECTOR as u64 * u64::from(count) <= self.memory
     }
 
-    fn hold_sectors(&self, first: u64, count: u16) -> bool {
-        first + u64::from(count) <= self.sectors
-    }
-
-    /// How many sectors the drive has from a first one on.
-    fn sectors_from(&self, first: u64) -> u64 {
-        self.sectors.saturating_sub(first)
+    /// How many sectors of a unit a transfer can have, that writes or reads.
+    fn sectors_of(&self, unit: u8, writes: bool) -> u64 {
+        let units = if writes { &self.writable } else { &self.readable };
+        units.get(usize::from(unit)).map_or(0, |sectors| (*sectors).into())
     }
 
     /// How many whole sectors memory has room for from an address on.
@@ -137,7 +155,7 @@ fn fields(b: &[u8; IOPB]) -> Fields {
 }
 
 /// The maximum sector of a head.
-fn maximum_on(drive: Drive, head: u8) -> u8 {
+fn maximum_on(drive: &Drive, head: u8) -> u8 {
     if head == drive.head {
         drive.last_sector
     } else {
@@ -147,14 +165,15 @@ fn maximum_on(drive: Drive, head: u8) -> u8 {
 
 /// How a command will end as far as that is settled before its data is looked at; `first` is the number
 /// of its first sector.
-fn early_ending(bounds: &Bounds, drive: Drive, f: &Fields, first: u64) -> Ending {
+fn early_ending(bounds: &Bounds, drive: &Drive, f: &Fields, first: u64) -> Ending {
+    let sectors = bounds.sectors_of(f.unit, false);
     let code = if f.chen == 1 && f.next_address % 2 == 1 {
         0x1E
     } else if f.command > READ_DATA || (f.sgm == 1 && f.command == 0) || f.subfunction != 0 {
         0x14
     } else if f.command == 0 {
         0x00
-    } else if f.unit != 0 {
+    } else if !drive.present {
         0x42
     } else if f.count == 0 {
         0x13
@@ -164,10 +183,10 @@ fn early_ending(bounds: &Bounds, drive: Drive, f: &Fields, first: u64) -> Ending
         0x11
     } else if f.sector > maximum_on(drive, f.head) {
         0x12
-    } else if !bounds.hold_sectors(first, f.count) {
-        return Ending::past_an_end(0x10, bounds.sectors_from(first));
+    } else if first + u64::from(f.count) > sectors {
+        return Ending::past_an_end(0x10, sectors.saturating_sub(first));
     // no branch on the command: reads and writes often take turns
-    } else if (f.command == WRITE_DATA) & bounds.protected {
+    } else if (f.command == WRITE_DATA) & drive.protected {
         0x90
     } else {
         0x00
@@ -237,22 +256,24 @@ const BLANK: Record = Record {
     byte0: 0,
     code: 0,
     fitted: 0,
-    unused: 0,
+    unit: 0,
     list: [Link { address: 0, length: 0, unused: 0 }; lists::MOST_LINKS],
 };
 
 /// Fills the record of the command whose IOPB is at an address, in its place in the table.
-fn fill(memory: &[u8], bounds: &Bounds, drive: Drive, at: u32, r: &mut Record) {
+fn fill(memory: &[u8], bounds: &Bounds, drives: &LentDrives, at: u32, r: &mut Record) {
     let bytes = iopb(memory, at).expect("the chain was followed through it");
     let f = fields(bytes);
-    let first = u64::from(f.cylinder) * per_cylinder(drive)
-        + u64::from(f.head) * per_track(drive)
+    let drive = drive_of(drives, f.unit);
+    let first = u64::from(f.cylinder) * per_cylinder(*drive)
+        + u64::from(f.head) * per_track(*drive)
         + u64::from(f.sector);
     *r = BLANK;
     r.iopb = at;
     r.address = f.data_address;
     r.sector = first as u32;
     r.count = f.count;
+    r.unit = f.unit;
     r.byte0 = bytes[0];
     Ending { code: r.code, fitted: r.fitted } = early_ending(bounds, drive, &f, first);
     if r.code != 0 || f.command == 0 {
@@ -274,17 +295,23 @@ fn fill(memory: &[u8], bounds: &Bounds, drive: Drive, at: u32, r: &mut Record) {
 /// A refused walk leaves the table alone, so the chain is followed to its end before a record is
 /// written.
 #[inline(never)]
-pub fn walk(memory: &[u8], image: &[u8], drive: Drive, start: u32, table: &mut [Record]) -> Walked {
-    if !sizes_right(memory, image, drive, table) {
+pub fn walk(
+    memory: &[u8],
+    images: &Images,
+    drives: &LentDrives,
+    start: u32,
+    table: &mut [Record],
+) -> Walked {
+    let bounds = Bounds::new(memory.len(), images.map(<[u8]>::len), drives);
+    let Some(bounds) = bounds.filter(|_| table.len() >= MOST_COMMANDS) else {
         return Walked { number: 1, commands: 0 };
-    }
+    };
     let mut found = [0; MOST_COMMANDS];
     match follow(memory, start, &mut found) {
         Err(number) => Walked { number, commands: 0 },
         Ok(commands) => {
-            let bounds = Bounds::new(memory, drive);
             for (record, at) in table.iter_mut().zip(&found[..commands]) {
-                fill(memory, &bounds, drive, *at, record);
+                fill(memory, &bounds, drives, *at, record);
             }
             Walked { number: 0, commands }
         }
@@ -348,35 +375,39 @@ fn sound(bounds: &Bounds, r: &Record, hull: &mut Range<u32>) -> bool {
     if u64::from(r.iopb) + IOPB as u64 > bounds.memory {
         return false;
     }
+    let mut moves = |writes| {
+        let end = u64::from(r.sector) + u64::from(r.count);
+        // nearly always all are so: one branch for them together
+        (r.count != 0)
+            & (r.taken <= u32::from(r.count))
+            & data_sound(bounds, r, hull)
+            & (end <= bounds.sectors_of(r.unit, writes))
+    };
     match kind(r) {
         Kind::Still => r.taken <= 1,
-        Kind::Write if bounds.protected => false,
-        // nearly always all are so: one branch for them together
-        _ => {
-            (r.count != 0)
-                & (r.taken <= u32::from(r.count))
-                & data_sound(bounds, r, hull)
-                & bounds.hold_sectors(u64::from(r.sector), r.count)
-        }
+        Kind::Read => moves(false),
+        Kind::Write => moves(true),
     }
 }
 
 /// The numbers that stand before any place is looked at: 1, then 9, else 0; then all hulls are noted.
+#[inline(always)]
 fn refused(
     memory: &[u8],
-    image: &[u8],
-    drive: Drive,
+    images: &ImagesMut,
+    drives: &LentDrives,
     table: &[Record],
     commands: usize,
     hulls: &mut Hulls,
 ) -> u8 {
-    if !sizes_right(memory, image, drive, table) {
+    let lengths = images.each_ref().map(|image| image.len());
+    let bounds = Bounds::new(memory.len(), lengths, drives);
+    let Some(bounds) = bounds.filter(|_| table.len() >= MOST_COMMANDS) else {
         return 1;
-    }
+    };
     if commands > MOST_COMMANDS {
         return 9;
     }
-    let bounds = Bounds::new(memory, drive);
     let mut in_use = table[..commands].iter().zip(hulls);
     if in_use.all(|(record, hull)| sound(&bounds, record, hull)) {
         0
@@ -387,7 +418,8 @@ fn refused(
 
 /// What a sound command touches: its status bytes from `status` on, its data, its sectors. Where
 /// nothing moves, the last two are empty ranges, which meet no other. Of a command with a link list
-/// the data here is only where its ranges lie at most.
+/// the data here is only where its ranges lie at most. Sectors are numbered through all units, each having
+/// room for as many as an image can have, so that those of two units never meet.
 struct Touched {
     kind: Kind,
     listed: bool,
@@ -400,12 +432,15 @@ fn touched(r: &Record, hull: &Range<u32>) -> Touched {
     let kind = kind(r);
     let listed = kind != Kind::Still && r.ranges != 0;
     let count = if kind == Kind::Still { 0 } else { r.count };
+    // these wrap only where nothing moves, or where the record is not in use and its touch not looked at
+    let first = r.sector.wrapping_add(MOST_SECTORS * u32::from(r.unit));
+    let data_end = r.address.wrapping_add(data_bytes(count));
     Touched {
         kind,
         listed,
         status: r.iopb,
-        data: if listed { hull.clone() } else { r.address..r.address + data_bytes(count) },
-        sectors: r.sector..r.sector + u32::from(count),
+        data: if listed { hull.clone() } else { r.address..data_end },
+        sectors: first..first.wrapping_add(u32::from(count)),
     }
 }
 
@@ -465,51 +500,64 @@ fn waits(table: &[Record], hulls: &Hulls, place: usize) -> bool {
 /// Takes so many steps of a command, which has as many left, and closes it after its last.
 // inlined, since a call for each command is seen at one sector a command
 #[inline(always)]
-fn take(memory: &mut [u8], image: &mut [u8], drive: Drive, r: &mut Record, taken: u32) {
-    let at = r.address as usize + SECTOR * r.taken as usize;
-    let on_disk = SECTOR * (r.sector as usize + r.taken as usize);
-    let bytes = SECTOR * taken as usize;
+fn take(
+    memory: &mut [u8],
+    images: &mut ImagesMut,
+    drives: &LentDrives,
+    r: &mut Record,
+    taken: u32,
+) {
     let kind = kind(r);
-    if r.ranges != 0 && kind != Kind::Still {
-        let disk = &mut image[SECTOR * r.sector as usize..];
-        let from = SECTOR * r.taken as usize;
-        lists::move_pieces(memory, disk, lists::used(r), kind == Kind::Read, from, from + bytes);
-        r.taken += taken;
-        return close(memory, drive, r);
+    if kind != Kind::Still {
+        let image = &mut *images[usize::from(r.unit)];
+        move_sectors(memory, image, r, kind == Kind::Read, taken);
     }
     r.taken += taken;
-    match kind {
-        Kind::Read => memory[at..at + bytes].copy_from_slice(&image[on_disk..on_disk + bytes]),
-        Kind::Write => image[on_disk..on_disk + bytes].copy_from_slice(&memory[at..at + bytes]),
-        Kind::Still => {}
+    if finished(r) {
+        close(memory, drive_of(drives, r.unit), r);
     }
-    close(memory, drive, r);
 }
 
 /// Posts the status of a command that has no step left.
 #[inline(always)]
-fn close(memory: &mut [u8], drive: Drive, r: &Record) {
-    if finished(r) {
-        let errs = if r.code == 0 { 0 } else { 0x80 };
-        let byte2 = if drive.protected { 0x13 } else { 0x03 };
-        // as one number, so that it is one store
-        let posted = u32::from_le_bytes([r.byte0 & 0x7F | 0x40 | errs, r.code, byte2, r.fitted]);
-        let status = r.iopb as usize;
-        memory[status..status + 4].copy_from_slice(&posted.to_le_bytes());
+fn close(memory: &mut [u8], drive: &Drive, r: &Record) {
+    let errs = if r.code == 0 { 0 } else { 0x80 };
+    let byte2 = if drive.protected { 0x13 } else { 0x03 };
+    // as one number, so that it is one store
+    let posted = u32::from_le_bytes([r.byte0 & 0x7F | 0x40 | errs, r.code, byte2, r.fitted]);
+    let status = r.iopb as usize;
+    memory[status..status + 4].copy_from_slice(&posted.to_le_bytes());
+}
+
+/// Moves the next sectors of a transfer, so many of them.
+#[inline(always)]
+fn move_sectors(memory: &mut [u8], image: &mut [u8], r: &Record, reading: bool, sectors: u32) {
+    let (from, bytes) = (SECTOR * r.taken as usize, SECTOR * sectors as usize);
+    let first = SECTOR * r.sector as usize;
+    if r.ranges != 0 {
+        let disk = &mut image[first..];
+        return lists::move_pieces(memory, disk, lists::used(r), reading, from, from + bytes);
+    }
+    let (at, on_disk) = (r.address as usize + from, first + from);
+    let (host, disk) = (&mut memory[at..at + bytes], &mut image[on_disk..on_disk + bytes]);
+    if reading {
+        host.copy_from_slice(disk);
+    } else {
+        disk.copy_from_slice(host);
     }
 }
 
 #[inline(never)]
 pub fn pick(
     memory: &mut [u8],
-    image: &mut [u8],
-    drive: Drive,
+    images: &mut ImagesMut,
+    drives: &LentDrives,
     table: &mut [Record],
     commands: usize,
     place: usize,
 ) -> u8 {
     let mut hulls = NO_HULLS;
-    let number = refused(memory, image, drive, table, commands, &mut hulls);
+    let number = refused(memory, images, drives, table, commands, &mut hulls);
     if number != 0 {
         number
     } else if place >= commands {
@@ -519,7 +567,7 @@ pub fn pick(
     } else if waits(table, &hulls, place) {
         6
     } else {
-        take(memory, image, drive, &mut table[place], 1);
+        take(memory, images, drives, &mut table[place], 1);
         0
     }
 }
@@ -530,23 +578,20 @@ pub fn pick(
 #[inline(never)]
 pub fn run_picks(
     memory: &mut [u8],
-    image: &mut [u8],
-    drive: Drive,
+    images: &mut ImagesMut,
+    drives: &LentDrives,
     table: &mut [Record],
     commands: usize,
     picks: &[u8],
 ) -> Ran {
     let mut hulls = NO_HULLS;
-    let number = refused(memory, image, drive, table, commands, &mut hulls);
+    let number = refused(memory, images, drives, table, commands, &mut hulls);
     let mut ran = Ran { number, ..Ran::default() };
     if number != 0 {
         return ran;
     }
     let touches: [Touched; MOST_COMMANDS] = std::array::from_fn(|k| touched(&table[k], &hulls[k]));
-    let mut left = [0; MOST_COMMANDS];
-    for (left, record) in left.iter_mut().zip(&table[..commands]) {
-        *left = steps(record) - record.taken;
-    }
+    let mut left = steps_left(&table[..commands]);
     let mut searched = [0; MOST_COMMANDS];
     for same in picks.chunk_by(|one, next| one == next) {
         let (place, named) = (usize::from(same[0]), same.len() as u64);
@@ -558,7 +603,7 @@ pub fn run_picks(
             searched[place] = found.unwrap_or(place);
             if found.is_none() {
                 taken = u64::from(left[place]).min(named);
-                take(memory, image, drive, &mut table[place], taken as u32);
+                take(memory, images, drives, &mut table[place], taken as u32);
                 left[place] -= taken as u32;
             }
         }
@@ -569,16 +614,25 @@ pub fn run_picks(
     ran
 }
 
+/// The steps that each command has left; none past the last command.
+fn steps_left(in_use: &[Record]) -> [u32; MOST_COMMANDS] {
+    let mut left = [0; MOST_COMMANDS];
+    for (left, record) in left.iter_mut().zip(in_use) {
+        *left = steps(record) - record.taken;
+    }
+    left
+}
+
 #[inline(never)]
 pub fn run_written(
     memory: &mut [u8],
-    image: &mut [u8],
-    drive: Drive,
+    images: &mut ImagesMut,
+    drives: &LentDrives,
     table: &mut [Record],
     commands: usize,
     budget: u64,
 ) -> Ran {
-    let number = refused(memory, image, drive, table, commands, &mut NO_HULLS.clone());
+    let number = refused(memory, images, drives, table, commands, &mut NO_HULLS.clone());
     let mut ran = Ran { number, finished: number == 0, ..Ran::default() };
     if number != 0 {
         return ran;
@@ -587,7 +641,7 @@ pub fn run_written(
         let left = u64::from(steps(record) - record.taken);
         let taken = left.min(budget - ran.steps);
         if taken > 0 {
-            take(memory, image, drive, record, taken as u32);
+            take(memory, images, drives, record, taken as u32);
         }
         ran.steps += taken;
         ran.finished &= taken == left;
@@ -595,18 +649,21 @@ pub fn run_written(
     ran
 }
 
-pub fn look_number(image: &[u8], drive: Drive, sector: u32) -> u8 {
-    if !image_right(image, drive) {
-        1
-    } else if u64::from(sector) >= sectors(drive) {
+pub fn look_number(images: &Images, drives: &LentDrives, unit: u8, sector: u32) -> u8 {
+    let Some(bounds) = Bounds::new(0, images.map(<[u8]>::len), drives) else {
+        return 1;
+    };
+    if !drive_of(drives, unit).present {
+        11
+    } else if u64::from(sector) >= bounds.sectors_of(unit, false) {
         10
     } else {
         0
     }
 }
 
-pub fn look_part(image: &[u8], drive: Drive, sector: u32) -> Part {
-    if look_number(image, drive, sector) != 0 {
+pub fn look_part(images: &Images, drives: &LentDrives, unit: u8, sector: u32) -> Part {
+    if look_number(images, drives, unit, sector) != 0 {
         return Part { at: 0, length: 0 };
     }
     Part { at: SECTOR * sector as usize, length: SECTOR }
@@ -647,7 +704,7 @@ pub fn view_number(memory: &[u8], at: u32) -> u8 {
 
 pub fn view(memory: &[u8], at: u32) -> Fields {
     match iopb(memory, at) {
-        Some(bytes) if at % 2 == 0 => fields(bytes),
+        Some(bytes) if at % 2 != 1 => fields(bytes),
         _ => Fields::default(),
     }
 }

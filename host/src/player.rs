@@ -2,9 +2,12 @@
 //! that page says. The state, the lines that set it and the text of the answers are the second program's;
 //! every call is the board's. A `deck` is no call on the board: `decks` has it played.
 
+use crate::archive::ImagesMut;
 use crate::boards::{Board, ARCHIVE};
-use crate::declared::{Drive, Ran, Record};
-use crate::translate::{drive_of, record_of, second_fields_of, second_place_of, second_record_of};
+use crate::declared::{LentDrives, Ran, Record};
+use crate::translate::{
+    drive_of, drives_of, record_of, second_fields_of, second_place_of, second_record_of,
+};
 use second::run::{PicksReply, WrittenReply};
 use second::trial::answer::Answer;
 use second::trial::line::{Line, TABLE_RECORDS};
@@ -68,7 +71,7 @@ impl Player<'_> {
             Line::Picks(picks) => self.picks(records, picks),
             Line::Written(budget) => self.written(records, *budget),
             Line::Steps => self.steps(records),
-            Line::Look(sector) => self.look(*sector as u32),
+            Line::Look { unit, sector } => self.look(*unit as u8, *sector as u32),
             Line::Place(sector) => self.place(*sector as u32),
             Line::Fields(at) => self.fields(*at as u32),
             Line::View(at) => self.view(*at as u32),
@@ -77,20 +80,22 @@ impl Player<'_> {
         })
     }
 
-    /// Calls the board over the state's own memory, image and first records.
+    /// Calls the board over the state's own memory, images and first records.
     fn over_table<R>(
         &mut self,
         records: usize,
-        call: impl FnOnce(&mut [u8], &mut [u8], Drive, &mut [Record], usize) -> R,
+        call: impl FnOnce(&mut [u8], &mut ImagesMut, &LentDrives, &mut [Record], usize) -> R,
     ) -> R {
         let state = &mut self.state;
-        let drive = drive_of(&state.board.drive);
+        let drives = drives_of(&state.board);
         let mut table = [Record::default(); TABLE_RECORDS as usize];
         for (mine, its) in table.iter_mut().zip(&state.table) {
             *mine = record_of(its);
         }
-        let (memory, image) = (&mut state.board.memory, &mut state.board.image);
-        let reply = call(memory, image, drive, &mut table[..records], state.commands as usize);
+        let memory = &mut state.board.memory;
+        let mut images = state.board.units.each_mut().map(|unit| unit.image.as_mut_slice());
+        let (table_lent, commands) = (&mut table[..records], state.commands as usize);
+        let reply = call(memory, &mut images, &drives, table_lent, commands);
         for (mine, its) in table.iter().zip(&mut state.table) {
             *its = second_record_of(mine);
         }
@@ -99,8 +104,8 @@ impl Player<'_> {
 
     fn walk(&mut self, word: &'static str, records: usize, start: u64) -> Answer {
         let walk = self.board.walk;
-        let walked = self.over_table(records, |memory, image, drive, table, _| {
-            walk(memory, image, drive, start as u32, table)
+        let walked = self.over_table(records, |memory, images, drives, table, _| {
+            walk(memory, &images.each_ref().map(|image| &**image), drives, start as u32, table)
         });
         let (number, commands) = (walked.number, walked.commands as u64);
         self.state.commands = commands;
@@ -109,16 +114,16 @@ impl Player<'_> {
 
     fn pick(&mut self, word: &'static str, records: usize, place: u64) -> Answer {
         let pick = self.board.pick;
-        let number = self.over_table(records, |memory, image, drive, table, commands| {
-            pick(memory, image, drive, table, commands, place as usize)
+        let number = self.over_table(records, |memory, images, drives, table, commands| {
+            pick(memory, images, drives, table, commands, place as usize)
         });
         Answer::Pick { word, number }
     }
 
     fn picks(&mut self, records: usize, picks: &[u8]) -> Answer {
         let run = self.board.run_picks;
-        let ran = self.over_table(records, |memory, image, drive, table, commands| {
-            run(memory, image, drive, table, commands, picks)
+        let ran = self.over_table(records, |memory, images, drives, table, commands| {
+            run(memory, images, drives, table, commands, picks)
         });
         let Ran { steps, refused, number, finished } = ran;
         Answer::Picks(PicksReply { number, steps, refused, finished, numbers: Vec::new() })
@@ -126,8 +131,8 @@ impl Player<'_> {
 
     fn written(&mut self, records: usize, budget: u64) -> Answer {
         let run = self.board.run_written;
-        let ran = self.over_table(records, |memory, image, drive, table, commands| {
-            run(memory, image, drive, table, commands, budget)
+        let ran = self.over_table(records, |memory, images, drives, table, commands| {
+            run(memory, images, drives, table, commands, budget)
         });
         let Ran { steps, number, finished, .. } = ran;
         Answer::Written(WrittenReply { number, steps, finished })
@@ -138,18 +143,22 @@ impl Player<'_> {
         Answer::Steps(self.over_table(records, |_, _, _, table, commands| steps(table, commands)))
     }
 
-    fn look(&self, sector: u32) -> Answer {
-        let image = &self.state.board.image;
-        let drive = drive_of(&self.state.board.drive);
-        let part = (self.board.look_part)(image, drive, sector);
+    fn look(&self, unit: u8, sector: u32) -> Answer {
+        let images = self.state.board.units.each_ref().map(|unit| unit.image.as_slice());
+        let drives = drives_of(&self.state.board);
+        let part = (self.board.look_part)(&images, &drives, unit, sector);
+        let bytes = images.get(usize::from(unit)).map_or(&[][..], |image| image);
         Answer::Look {
-            number: (self.board.look_number)(image, drive, sector),
-            part: image[part.at..part.at + part.length].to_vec(),
+            number: (self.board.look_number)(&images, &drives, unit, sector),
+            // bytes that the unit's image has not would be the board's mistake: they are told as zeros
+            part: bytes
+                .get(part.at..part.at + part.length)
+                .map_or_else(|| vec![0; part.length], <[u8]>::to_vec),
         }
     }
 
     fn place(&self, sector: u32) -> Answer {
-        let placed = (self.board.place)(drive_of(&self.state.board.drive), sector);
+        let placed = (self.board.place)(drive_of(self.state.unit()), sector);
         Answer::Place { number: placed.number, place: second_place_of(&placed.place) }
     }
 

@@ -1,19 +1,37 @@
-//! The same things in the archive's words and in the second program's: drive, place, range, record,
-//! fields.
+//! The same things in the archive's words and in the second program's: units with their drives and
+//! images, place, range, record, fields.
 
-use crate::declared::{Drive, Link, Place, Record};
+use crate::archive::{Images, ImagesMut};
+use crate::declared::{Drive, LentDrives, Link, Place, Record};
 use crate::field::Fields;
+use second::board::{Board, Unit};
 use std::array::from_fn;
 
-/// The archive's drive, from the second program's.
-pub fn drive_of(drive: &second::drive::Drive) -> Drive {
+/// The archive's drive, from the second program's unit.
+pub fn drive_of(unit: &Unit) -> Drive {
     Drive {
-        cylinder: drive.max_cylinder,
-        head: drive.max_head,
-        sector: drive.max_sector,
-        last_sector: drive.last_head_max_sector,
-        protected: drive.protected,
+        cylinder: unit.drive.max_cylinder,
+        head: unit.drive.max_head,
+        sector: unit.drive.max_sector,
+        last_sector: unit.drive.last_head_max_sector,
+        protected: unit.drive.protected,
+        present: unit.there,
     }
+}
+
+/// The archive's drives, from all units of the second program's board.
+pub fn drives_of(board: &Board) -> LentDrives {
+    LentDrives { units: from_fn(|k| drive_of(&board.units[k])) }
+}
+
+/// What is lent of runs that lie in vectors.
+pub fn lent(images: &[Vec<u8>; 4]) -> Images<'_> {
+    images.each_ref().map(Vec::as_slice)
+}
+
+/// The same, to be written to.
+pub fn lent_mut(images: &mut [Vec<u8>; 4]) -> ImagesMut<'_> {
+    images.each_mut().map(Vec::as_mut_slice)
 }
 
 /// The second program's drive, from the archive's.
@@ -59,7 +77,7 @@ pub fn record_of(record: &second::record::Record) -> Record {
         byte0: record.byte0,
         code: record.code,
         fitted: record.fitted,
-        unused: record.unused_byte,
+        unit: record.unit,
         list: from_fn(|k| link_of(record.list[k], record.unused[k])),
     }
 }
@@ -76,7 +94,7 @@ pub fn second_record_of(record: &Record) -> second::record::Record {
         code: record.code,
         ranges: record.ranges,
         fitted: record.fitted,
-        unused_byte: record.unused,
+        unit: record.unit,
         list: record.list.map(second_range_of),
         unused: record.list.map(|link| link.unused),
     }

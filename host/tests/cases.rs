@@ -2,7 +2,7 @@
 //! line printed must be the same.
 
 use host::archive;
-use host::declared::Drive;
+use host::declared::{Drive, LentDrives};
 use host::player::play_cases;
 use second::makers::cases::random_case;
 use second::trial::stream::run_cases;
@@ -99,14 +99,24 @@ fn places_on_a_shorter_last_head() {
     assert_eq!(given.expect("cases").lines().collect::<Vec<_>>(), right);
 }
 
-/// What the wrapper's look hands back is no copy; of a sector that is not there it is empty.
+/// What the wrapper's look hands back is no copy; of a sector or a unit that is not there it is empty.
 #[test]
 fn a_look_hands_back_the_image_itself() {
     let drive = Drive { sector: 1, last_sector: 1, ..Drive::default() };
     let image: Vec<u8> = (0..1_024).map(|at| (at / 512) as u8).collect();
-    let part = archive::look(&image, drive, 1);
+    let (images, mut drives) = (archive::only(&image), LentDrives::one(drive));
+    let part = archive::look(&images, &drives, 0, 1);
     assert_eq!((part.as_ptr(), part.len()), (image[512..].as_ptr(), 512));
-    assert!(archive::look(&image, drive, 2).is_empty());
+    assert!(archive::look(&images, &drives, 0, 2).is_empty());
+    for unit in [1, 3, 4, 255] {
+        assert!(archive::look(&images, &drives, unit, 1).is_empty());
+    }
+    // the same drive as unit 2, with an image of its own
+    let other = image.clone();
+    drives.units[2] = drives.units[0];
+    let images = [&image[..], &[], &other, &[]];
+    assert_eq!(archive::look(&images, &drives, 2, 1).as_ptr(), other[512..].as_ptr());
+    assert_eq!(archive::look(&images, &drives, 0, 1).as_ptr(), image[512..].as_ptr());
 }
 
 #[test]
@@ -116,10 +126,10 @@ fn a_line_outside_the_format_is_named() {
     // as it was before the last head had a maximum of its own
     let error = by_archive("case 1\ndrive 0 0 1 0\n").expect_err("a drive has five numbers");
     assert!(error.starts_with("line 2: "), "{error}");
-    // as it was before a record had ranges, and before it said how many sectors would have fitted
-    for short in ["record 0 0 0 0 0 0 0 0", "record 0 0 0 0 0 0 0 0 0"] {
-        let error =
-            by_archive(&format!("case 1\n{short}\n")).expect_err("a record line has ten numbers");
+    // as it was before a record had ranges, said how many sectors would have fitted, and named a unit
+    for short in ["0 0 0 0 0 0 0 0", "0 0 0 0 0 0 0 0 0", "0 0 0 0 0 0 0 0 0 0"] {
+        let error = by_archive(&format!("case 1\nrecord {short}\n"))
+            .expect_err("a record line has eleven numbers");
         assert!(error.starts_with("line 2: "), "{error}");
     }
     // and as it was while the number of ranges had 32 bits
@@ -127,6 +137,11 @@ fn a_line_outside_the_format_is_named() {
     assert!(error.starts_with("line 2: "), "{error}");
     let error = by_archive("case 1\nspoil 0 8 256\n").expect_err("what fitted is one byte");
     assert!(error.starts_with("line 2: "), "{error}");
+    // there are four units, a record's unit is one byte, and a look names its unit
+    for wrong in ["unit 4", "there 2", "spoil 0 9 256", "spoil 0 10 0", "look 0", "look 256 0"] {
+        let error = by_archive(&format!("case 1\n{wrong}\n")).expect_err(wrong);
+        assert!(error.starts_with("line 2: "), "{error}");
+    }
     let error = by_archive("case 1\nrange 0 32 0 0\n").expect_err("a record has 32 ranges");
     assert!(error.starts_with("line 2: "), "{error}");
 }

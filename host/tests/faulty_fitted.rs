@@ -1,11 +1,14 @@
 //! Boards with a fault in how much would have fitted: each is found out by a stored case, and by random
 //! chains too.
 
+mod before;
 mod playing;
 mod stored;
 
+use before::Before;
+use host::archive::{Images, ImagesMut};
 use host::boards::{Board, ORDINARY};
-use host::declared::{Drive, Link, Record, Walked};
+use host::declared::{Drive, LentDrives, Link, Record, Walked};
 use playing::must_be_found;
 use stored::{found_by, has_short_images};
 
@@ -60,17 +63,19 @@ fn capped(number: u64) -> u8 {
     number.min(255) as u8
 }
 
-type Walking<'a> = (&'a [u8], &'a [u8], Drive, u32);
+type Walking<'a> = (&'a [u8], &'a Images<'a>, &'a LentDrives, u32);
 
-/// Walks as the ordinary board does, and then changes the records of the commands.
+/// Walks as the ordinary board does, and then changes the records of the commands, each with the drive of
+/// its own unit.
 fn walk_then(
     change: fn(&[u8], Drive, &mut Record),
-    (memory, image, drive, start): Walking,
+    (memory, images, drives, start): Walking,
     table: &mut [Record],
 ) -> Walked {
-    let walked = (ORDINARY.walk)(memory, image, drive, start, table);
+    let walked = (ORDINARY.walk)(memory, images, drives, start, table);
     for record in &mut table[..walked.commands] {
-        change(memory, drive, record);
+        let drive = drives.units.get(usize::from(record.unit));
+        change(memory, drive.copied().unwrap_or_default(), record);
     }
     walked
 }
@@ -80,14 +85,14 @@ fn a_number_worked_out_wrong_is_found() {
     must_be_found_twice(
         "tells the sectors that did not fit",
         Board {
-            walk: |memory, image, drive, start, table| {
+            walk: |memory, images, drives, start, table| {
                 let change = |memory: &[u8], drive: Drive, record: &mut Record| {
                     if past_drive(record) || past_memory(record) {
                         let fitted = fitted_before_an_end(memory, drive, record);
                         record.fitted = capped(u64::from(record.count) - fitted);
                     }
                 };
-                walk_then(change, (memory, image, drive, start), table)
+                walk_then(change, (memory, images, drives, start), table)
             },
             ..ORDINARY
         },
@@ -95,13 +100,13 @@ fn a_number_worked_out_wrong_is_found() {
     must_be_found_twice(
         "rounds up",
         Board {
-            walk: |memory, image, drive, start, table| {
+            walk: |memory, images, drives, start, table| {
                 let change = |memory: &[u8], _: Drive, record: &mut Record| {
                     if past_memory(record) {
                         record.fitted = capped(bytes_from(memory, record.address).div_ceil(SECTOR));
                     }
                 };
-                walk_then(change, (memory, image, drive, start), table)
+                walk_then(change, (memory, images, drives, start), table)
             },
             ..ORDINARY
         },
@@ -113,7 +118,7 @@ fn a_number_of_the_other_end_is_found() {
     must_be_found_twice(
         "tells memory's number where both ends are passed",
         Board {
-            walk: |memory, image, drive, start, table| {
+            walk: |memory, images, drives, start, table| {
                 let change = |memory: &[u8], _: Drive, record: &mut Record| {
                     let fitted = bytes_from(memory, record.address) / SECTOR;
                     let past = fitted < u64::from(record.count) && record.byte0 & SGM == 0;
@@ -121,7 +126,7 @@ fn a_number_of_the_other_end_is_found() {
                         record.fitted = capped(fitted);
                     }
                 };
-                walk_then(change, (memory, image, drive, start), table)
+                walk_then(change, (memory, images, drives, start), table)
             },
             ..ORDINARY
         },
@@ -133,13 +138,13 @@ fn a_large_number_kept_wrong_is_found() {
     must_be_found_twice(
         "keeps the lowest byte of a larger number",
         Board {
-            walk: |memory, image, drive, start, table| {
+            walk: |memory, images, drives, start, table| {
                 let change = |memory: &[u8], drive: Drive, record: &mut Record| {
                     if past_drive(record) {
                         record.fitted = fitted_before_an_end(memory, drive, record) as u8;
                     }
                 };
-                walk_then(change, (memory, image, drive, start), table)
+                walk_then(change, (memory, images, drives, start), table)
             },
             ..ORDINARY
         },
@@ -147,11 +152,11 @@ fn a_large_number_kept_wrong_is_found() {
     must_be_found_twice(
         "tells 254 of all that is more",
         Board {
-            walk: |memory, image, drive, start, table| {
+            walk: |memory, images, drives, start, table| {
                 let change = |_: &[u8], _: Drive, record: &mut Record| {
                     record.fitted = record.fitted.min(254);
                 };
-                walk_then(change, (memory, image, drive, start), table)
+                walk_then(change, (memory, images, drives, start), table)
             },
             ..ORDINARY
         },
@@ -163,7 +168,7 @@ fn a_number_where_none_is_told_is_found() {
     must_be_found_twice(
         "tells a number for a cylinder above its maximum",
         Board {
-            walk: |memory, image, drive, start, table| {
+            walk: |memory, images, drives, start, table| {
                 let change = |_: &[u8], drive: Drive, record: &mut Record| {
                     if record.code == 0x10 && record.fitted == 0 {
                         // less than nothing is left, which wraps
@@ -171,7 +176,7 @@ fn a_number_where_none_is_told_is_found() {
                         record.fitted = capped(left.into());
                     }
                 };
-                walk_then(change, (memory, image, drive, start), table)
+                walk_then(change, (memory, images, drives, start), table)
             },
             ..ORDINARY
         },
@@ -179,7 +184,7 @@ fn a_number_where_none_is_told_is_found() {
     must_be_found_twice(
         "tells a number for 4BH of a range of a list",
         Board {
-            walk: |memory, image, drive, start, table| {
+            walk: |memory, images, drives, start, table| {
                 let change = |memory: &[u8], _: Drive, record: &mut Record| {
                     let outside = |link: &&Link| {
                         u64::from(link.length) > bytes_from(memory, link.address)
@@ -190,7 +195,7 @@ fn a_number_where_none_is_told_is_found() {
                         record.fitted = capped(bytes_from(memory, link.address) / SECTOR);
                     }
                 };
-                walk_then(change, (memory, image, drive, start), table)
+                walk_then(change, (memory, images, drives, start), table)
             },
             ..ORDINARY
         },
@@ -202,26 +207,11 @@ fn what_an_earlier_walk_left_is_found() {
     must_be_found_twice(
         "keeps the number of an earlier walk where it has none to tell",
         Board {
-            walk: |memory, image, drive, start, table| {
+            walk: |memory, images, drives, start, table| {
                 let before: Vec<u8> = table.iter().map(|record| record.fitted).collect();
-                let walked = (ORDINARY.walk)(memory, image, drive, start, table);
+                let walked = (ORDINARY.walk)(memory, images, drives, start, table);
                 for (record, old) in table[..walked.commands].iter_mut().zip(before) {
                     record.fitted = if record.fitted == 0 { old } else { record.fitted };
-                }
-                walked
-            },
-            ..ORDINARY
-        },
-    );
-    // no line of a case sets this byte, so random chains alone can find it
-    must_be_found(
-        "leaves the byte that nothing looks at as it was before the walk",
-        Board {
-            walk: |memory, image, drive, start, table| {
-                let before: Vec<u8> = table.iter().map(|record| record.unused).collect();
-                let walked = (ORDINARY.walk)(memory, image, drive, start, table);
-                for (record, old) in table[..walked.commands].iter_mut().zip(before) {
-                    record.unused = old;
                 }
                 walked
             },
@@ -235,13 +225,13 @@ fn a_number_that_is_forgotten_is_found() {
     must_be_found_twice(
         "forgets the number where a command with a list gets 10H",
         Board {
-            walk: |memory, image, drive, start, table| {
+            walk: |memory, images, drives, start, table| {
                 let change = |_: &[u8], _: Drive, record: &mut Record| {
                     if record.code == 0x10 && record.byte0 & SGM != 0 {
                         record.fitted = 0;
                     }
                 };
-                walk_then(change, (memory, image, drive, start), table)
+                walk_then(change, (memory, images, drives, start), table)
             },
             ..ORDINARY
         },
@@ -249,30 +239,30 @@ fn a_number_that_is_forgotten_is_found() {
     must_be_found_twice(
         "forgets the number once it is posted",
         Board {
-            pick: |memory, image, drive, table, commands, place| {
-                let lent = (memory, image, drive, table);
-                pick_then(lent, (commands, place), |_, _, _, record| record.fitted = 0)
+            pick: |memory, images, drives, table, commands, place| {
+                let lent = (memory, images, drives, table);
+                pick_then(lent, (commands, place), |_, _, record| record.fitted = 0)
             },
             ..ORDINARY
         },
     );
 }
 
-type Lent<'a> = (&'a mut [u8], &'a mut [u8], Drive, &'a mut [Record]);
+type Lent<'a, 'b> = (&'a mut [u8], &'a mut ImagesMut<'b>, &'a LentDrives, &'a mut [Record]);
 
 /// Picks as the ordinary board does, and then, where the command was closed by it, changes something:
-/// from memory as it was before, and the drive.
+/// from memory as it was before.
 fn pick_then(
-    (memory, image, drive, table): Lent,
+    (memory, images, drives, table): Lent,
     (commands, place): (usize, usize),
-    change: fn(&mut [u8], &[u8], Drive, &mut Record),
+    change: fn(&mut [u8], &[u8], &mut Record),
 ) -> u8 {
     let before = memory.to_vec();
-    let number = (ORDINARY.pick)(memory, image, drive, table, commands, place);
+    let number = (ORDINARY.pick)(memory, images, drives, table, commands, place);
     if let Some(record) = table.get_mut(place).filter(|_| number == 0) {
         let moves = record.code == 0 && matches!(record.byte0 & 15, 1 | 2);
         if record.taken == if moves { record.count.into() } else { 1 } {
-            change(memory, &before, drive, record);
+            change(memory, &before, record);
         }
     }
     number
@@ -287,9 +277,9 @@ fn a_number_posted_wrong_is_found() {
     must_be_found_twice(
         "posts 0 whatever the record says",
         Board {
-            pick: |memory, image, drive, table, commands, place| {
-                let lent = (memory, image, drive, table);
-                pick_then(lent, (commands, place), |memory, _, _, record| {
+            pick: |memory, images, drives, table, commands, place| {
+                let lent = (memory, images, drives, table);
+                pick_then(lent, (commands, place), |memory, _, record| {
                     memory[byte3(record)] = 0;
                 })
             },
@@ -299,9 +289,9 @@ fn a_number_posted_wrong_is_found() {
     must_be_found_twice(
         "posts a number with codes other than 00 alone",
         Board {
-            pick: |memory, image, drive, table, commands, place| {
-                let lent = (memory, image, drive, table);
-                pick_then(lent, (commands, place), |memory, _, _, record| {
+            pick: |memory, images, drives, table, commands, place| {
+                let lent = (memory, images, drives, table);
+                pick_then(lent, (commands, place), |memory, _, record| {
                     if record.code == 0 {
                         memory[byte3(record)] = 0;
                     }
@@ -317,9 +307,9 @@ fn a_number_taken_from_memory_at_the_close_is_found() {
     must_be_found_twice(
         "leaves byte 3 as it lies in memory at the close",
         Board {
-            pick: |memory, image, drive, table, commands, place| {
-                let lent = (memory, image, drive, table);
-                pick_then(lent, (commands, place), |memory, before, _, record| {
+            pick: |memory, images, drives, table, commands, place| {
+                let lent = (memory, images, drives, table);
+                pick_then(lent, (commands, place), |memory, before, record| {
                     memory[byte3(record)] = before[byte3(record)];
                 })
             },
@@ -329,13 +319,14 @@ fn a_number_taken_from_memory_at_the_close_is_found() {
     must_be_found_twice(
         "works the number out at the close, from what lies in the IOPB by then",
         Board {
-            pick: |memory, image, drive, table, commands, place| {
-                let number = (ORDINARY.pick)(memory, image, drive, table, commands, place);
+            pick: |memory, images, drives, table, commands, place| {
+                let number = (ORDINARY.pick)(memory, images, drives, table, commands, place);
                 let Some(record) = table.get(place).filter(|_| number == 0) else {
                     return number;
                 };
                 let mut again = [Record::default(); 32];
-                let walked = (ORDINARY.walk)(memory, image, drive, record.iopb, &mut again);
+                let images = &images.each_ref().map(|image| &**image);
+                let walked = (ORDINARY.walk)(memory, images, drives, record.iopb, &mut again);
                 if matches!(record.code, 0x10 | 0x4B) && walked.number == 0 {
                     memory[byte3(record)] = again[0].fitted;
                 }
@@ -351,14 +342,12 @@ fn a_number_that_is_refused_is_found() {
     must_be_found_twice(
         "gives 9 for a record that tells a number with code 00",
         Board {
-            pick: |memory, image, drive, table, commands, place| {
-                let before = (memory.to_vec(), image.to_vec(), table.to_vec());
-                let number = (ORDINARY.pick)(memory, image, drive, table, commands, place);
+            pick: |memory, images, drives, table, commands, place| {
+                let before = Before::of(memory, images, table);
+                let number = (ORDINARY.pick)(memory, images, drives, table, commands, place);
                 let strange = |record: &Record| record.fitted != 0 && record.code == 0;
-                if number != 1 && before.2.iter().take(commands).any(strange) {
-                    memory.copy_from_slice(&before.0);
-                    image.copy_from_slice(&before.1);
-                    table.copy_from_slice(&before.2);
+                if number != 1 && before.table.iter().take(commands).any(strange) {
+                    before.put_back(memory, images, table);
                     return 9;
                 }
                 number

@@ -1,9 +1,12 @@
 //! Boards with a fault in what they do with link lists: each is found out.
 
+mod before;
 mod playing;
 
+use before::Before;
+use host::archive::Images;
 use host::boards::{Board, ORDINARY};
-use host::declared::{Drive, Link, Record};
+use host::declared::{LentDrives, Link, Record};
 use playing::must_be_found;
 use std::ops::Range;
 
@@ -22,10 +25,10 @@ fn links(record: &Record) -> &[Link] {
 /// Walks as the ordinary board does, and then changes the records of the commands.
 fn walk_then(
     change: fn(&[u8], &mut Record),
-    (memory, image, drive, start): (&[u8], &[u8], Drive, u32),
+    (memory, images, drives, start): (&[u8], &Images, &LentDrives, u32),
     table: &mut [Record],
 ) -> host::declared::Walked {
-    let walked = (ORDINARY.walk)(memory, image, drive, start, table);
+    let walked = (ORDINARY.walk)(memory, images, drives, start, table);
     for record in &mut table[..walked.commands] {
         change(memory, record);
     }
@@ -37,13 +40,13 @@ fn a_list_copied_wrong_is_found() {
     must_be_found(
         "leaves something past the last range",
         Board {
-            walk: |memory, image, drive, start, table| {
+            walk: |memory, images, drives, start, table| {
                 let change = |_: &[u8], record: &mut Record| {
                     if let Some(link) = record.list.get_mut(record.ranges as usize) {
                         link.length = 1;
                     }
                 };
-                walk_then(change, (memory, image, drive, start), table)
+                walk_then(change, (memory, images, drives, start), table)
             },
             ..ORDINARY
         },
@@ -51,14 +54,14 @@ fn a_list_copied_wrong_is_found() {
     must_be_found(
         "keeps no list where the lengths don't add up",
         Board {
-            walk: |memory, image, drive, start, table| {
+            walk: |memory, images, drives, start, table| {
                 let change = |_: &[u8], record: &mut Record| {
                     if record.code == 0x1C {
                         record.ranges = 0;
                         record.list = [Link::default(); 32];
                     }
                 };
-                walk_then(change, (memory, image, drive, start), table)
+                walk_then(change, (memory, images, drives, start), table)
             },
             ..ORDINARY
         },
@@ -66,7 +69,7 @@ fn a_list_copied_wrong_is_found() {
     must_be_found(
         "keeps the two bytes of an element that are ignored",
         Board {
-            walk: |memory, image, drive, start, table| {
+            walk: |memory, images, drives, start, table| {
                 let change = |memory: &[u8], record: &mut Record| {
                     let elements = memory.get(record.address as usize..).unwrap_or_default();
                     let kept = &mut record.list[..record.ranges as usize];
@@ -74,7 +77,7 @@ fn a_list_copied_wrong_is_found() {
                         link.unused = u16::from_be_bytes([element[2], element[3]]);
                     }
                 };
-                walk_then(change, (memory, image, drive, start), table)
+                walk_then(change, (memory, images, drives, start), table)
             },
             ..ORDINARY
         },
@@ -86,7 +89,7 @@ fn a_code_of_a_list_given_wrong_is_found() {
     must_be_found(
         "does not ask where a range of no byte lies",
         Board {
-            walk: |memory, image, drive, start, table| {
+            walk: |memory, images, drives, start, table| {
                 let change = |memory: &[u8], record: &mut Record| {
                     let inside = |link: &Link| {
                         let end = link.address as usize + usize::from(link.length);
@@ -97,7 +100,7 @@ fn a_code_of_a_list_given_wrong_is_found() {
                         record.code = 0;
                     }
                 };
-                walk_then(change, (memory, image, drive, start), table)
+                walk_then(change, (memory, images, drives, start), table)
             },
             ..ORDINARY
         },
@@ -105,7 +108,7 @@ fn a_code_of_a_list_given_wrong_is_found() {
     must_be_found(
         "adds the lengths in 16 bits",
         Board {
-            walk: |memory, image, drive, start, table| {
+            walk: |memory, images, drives, start, table| {
                 let change = |_: &[u8], record: &mut Record| {
                     let bytes: usize =
                         links(record).iter().map(|link| usize::from(link.length)).sum();
@@ -114,7 +117,7 @@ fn a_code_of_a_list_given_wrong_is_found() {
                         record.code = 0;
                     }
                 };
-                walk_then(change, (memory, image, drive, start), table)
+                walk_then(change, (memory, images, drives, start), table)
             },
             ..ORDINARY
         },
@@ -126,7 +129,7 @@ fn a_list_looked_up_again_is_found() {
     must_be_found(
         "reads the list anew at each pick",
         Board {
-            pick: |memory, image, drive, table, commands, place| {
+            pick: |memory, images, drives, table, commands, place| {
                 if let Some(record) = table.get_mut(place).filter(|record| record.ranges <= 32) {
                     let at = record.address as usize;
                     let bytes = memory.get(at..at + 8 * record.ranges as usize).unwrap_or(&[]);
@@ -135,7 +138,7 @@ fn a_list_looked_up_again_is_found() {
                         link.address = u32::from_be_bytes([b[4], b[5], b[6], b[7]]);
                     }
                 }
-                (ORDINARY.pick)(memory, image, drive, table, commands, place)
+                (ORDINARY.pick)(memory, images, drives, table, commands, place)
             },
             ..ORDINARY
         },
@@ -143,10 +146,10 @@ fn a_list_looked_up_again_is_found() {
     must_be_found(
         "takes 8 bits of the number of ranges",
         Board {
-            run_written: |memory, image, drive, table, commands, budget| {
+            run_written: |memory, images, drives, table, commands, budget| {
                 let right: Vec<u16> = table.iter().map(|record| record.ranges).collect();
                 table.iter_mut().for_each(|record| record.ranges &= 0xFF);
-                let ran = (ORDINARY.run_written)(memory, image, drive, table, commands, budget);
+                let ran = (ORDINARY.run_written)(memory, images, drives, table, commands, budget);
                 let records = table.iter_mut().zip(right);
                 records.for_each(|(record, ranges)| record.ranges = ranges);
                 ran
@@ -172,22 +175,20 @@ fn a_list_taken_for_all_that_lies_between_is_found() {
     must_be_found(
         "lets a command wait for one whose ranges lie around its own",
         Board {
-            pick: |memory, image, drive, table, commands, place| {
-                let before = (memory.to_vec(), image.to_vec(), table.to_vec());
-                let number = (ORDINARY.pick)(memory, image, drive, table, commands, place);
-                let own = before.2.get(place).map_or(0..0, hull);
+            pick: |memory, images, drives, table, commands, place| {
+                let before = Before::of(memory, images, table);
+                let number = (ORDINARY.pick)(memory, images, drives, table, commands, place);
+                let own = before.table.get(place).map_or(0..0, hull);
                 let around = |other: &Record| {
                     let other = hull(other);
                     own.start.max(other.start) < own.end.min(other.end)
                 };
-                let earlier = before.2.iter().take(place).filter(|record| listed(record));
+                let earlier = before.table.iter().take(place).filter(|record| listed(record));
                 let open = |record: &&Record| {
                     record.taken < u32::from(record.count) && record.byte0 & 15 == 2
                 };
                 if number == 0 && earlier.filter(open).any(around) {
-                    memory.copy_from_slice(&before.0);
-                    image.copy_from_slice(&before.1);
-                    table.copy_from_slice(&before.2);
+                    before.put_back(memory, images, table);
                     return 6;
                 }
                 number
@@ -202,8 +203,8 @@ fn ranges_filled_in_another_order_are_found() {
     must_be_found(
         "fills the first range of a list last",
         Board {
-            pick: |memory, image, drive, table, commands, place| {
-                let number = (ORDINARY.pick)(memory, image, drive, table, commands, place);
+            pick: |memory, images, drives, table, commands, place| {
+                let number = (ORDINARY.pick)(memory, images, drives, table, commands, place);
                 let Some(record) = table.get(place).filter(|_| number == 0) else {
                     return number;
                 };
@@ -213,6 +214,7 @@ fn ranges_filled_in_another_order_are_found() {
                     let Link { address, length, .. } = record.list[0];
                     let bytes = usize::from(length).min(SECTOR);
                     let (at, disk) = (address as usize, SECTOR * record.sector as usize);
+                    let image = &images[usize::from(record.unit)];
                     memory[at..at + bytes].copy_from_slice(&image[disk..disk + bytes]);
                 }
                 number

@@ -31,8 +31,8 @@ fn a_faulty_reply_is_found() {
     must_be_found(
         "counts refused picks as steps",
         Board {
-            run_picks: |memory, image, drive, table, commands, picks| {
-                let ran = (ORDINARY.run_picks)(memory, image, drive, table, commands, picks);
+            run_picks: |memory, images, drives, table, commands, picks| {
+                let ran = (ORDINARY.run_picks)(memory, images, drives, table, commands, picks);
                 Ran { steps: ran.steps + ran.refused, ..ran }
             },
             ..ORDINARY
@@ -41,10 +41,10 @@ fn a_faulty_reply_is_found() {
     must_be_found(
         "takes picks of one place that follow each other for one",
         Board {
-            run_picks: |memory, image, drive, table, commands, picks| {
+            run_picks: |memory, images, drives, table, commands, picks| {
                 let mut once = picks.to_vec();
                 once.dedup();
-                let ran = (ORDINARY.run_picks)(memory, image, drive, table, commands, &once);
+                let ran = (ORDINARY.run_picks)(memory, images, drives, table, commands, &once);
                 let more = (picks.len() - once.len()) as u64;
                 Ran { refused: ran.refused + if ran.number == 0 { more } else { 0 }, ..ran }
             },
@@ -54,9 +54,9 @@ fn a_faulty_reply_is_found() {
     must_be_found(
         "takes 32 bits of the number of commands",
         Board {
-            pick: |memory, image, drive, table, commands, place| {
+            pick: |memory, images, drives, table, commands, place| {
                 let commands = commands as u32 as usize;
-                (ORDINARY.pick)(memory, image, drive, table, commands, place)
+                (ORDINARY.pick)(memory, images, drives, table, commands, place)
             },
             ..ORDINARY
         },
@@ -83,10 +83,11 @@ fn a_last_head_taken_for_another_is_found() {
     must_be_found(
         "tests a sector of the last head against the other maximum",
         Board {
-            walk: |memory, image, drive, start, table| {
-                let walked = (ORDINARY.walk)(memory, image, drive, start, table);
+            walk: |memory, images, drives, start, table| {
+                let walked = (ORDINARY.walk)(memory, images, drives, start, table);
                 for record in &mut table[..walked.commands] {
                     let sector = (ORDINARY.view)(memory, record.iopb).sector;
+                    let drive = drives.units[usize::from(record.unit % 4)];
                     if record.code == 0x12 && sector <= drive.sector {
                         record.code = 0;
                     }
@@ -103,9 +104,10 @@ fn a_last_head_taken_for_another_is_found() {
     must_be_found(
         "looks at a drive whose last head is longer than the others",
         Board {
-            look_number: |image, drive, sector| {
-                let number = (ORDINARY.look_number)(image, drive, sector);
-                if number == 1 && drive.last_sector > drive.sector && sector == 0 {
+            look_number: |images, drives, unit, sector| {
+                let number = (ORDINARY.look_number)(images, drives, unit, sector);
+                let longer = drives.units.iter().any(|drive| drive.last_sector > drive.sector);
+                if number == 1 && longer && sector == 0 {
                     return 0;
                 }
                 number
@@ -148,8 +150,8 @@ fn a_fault_that_leaves_the_reply_right_is_found() {
     must_be_found(
         "clears the record past the last command",
         Board {
-            walk: |memory, image, drive, start, table| {
-                let walked = (ORDINARY.walk)(memory, image, drive, start, table);
+            walk: |memory, images, drives, start, table| {
+                let walked = (ORDINARY.walk)(memory, images, drives, start, table);
                 if let Some(record) = table.get_mut(walked.commands) {
                     record.iopb = 0;
                 }
@@ -161,8 +163,8 @@ fn a_fault_that_leaves_the_reply_right_is_found() {
     must_be_found(
         "posts a status on a refusal",
         Board {
-            pick: |memory, image, drive, table, commands, place| {
-                let number = (ORDINARY.pick)(memory, image, drive, table, commands, place);
+            pick: |memory, images, drives, table, commands, place| {
+                let number = (ORDINARY.pick)(memory, images, drives, table, commands, place);
                 if number == 6 {
                     memory[table[place].iopb as usize + 3] ^= 1;
                 }
@@ -176,12 +178,27 @@ fn a_fault_that_leaves_the_reply_right_is_found() {
 #[test]
 fn a_changed_byte_far_from_the_chain_is_found() {
     must_be_found(
-        "changes the image's last byte in a run",
+        "changes the last byte of an image in a run",
         Board {
-            run_written: |memory, image, drive, table, commands, budget| {
-                let ran = (ORDINARY.run_written)(memory, image, drive, table, commands, budget);
-                if ran.steps > 0 {
-                    *image.last_mut().expect("a sound image has sectors") ^= 1;
+            run_written: |memory, images, drives, table, commands, budget| {
+                let ran = (ORDINARY.run_written)(memory, images, drives, table, commands, budget);
+                if let Some(last) = images[0].last_mut().filter(|_| ran.steps > 0) {
+                    *last ^= 1;
+                }
+                ran
+            },
+            ..ORDINARY
+        },
+    );
+    must_be_found(
+        "changes what is lent for an absent unit in a run",
+        Board {
+            run_written: |memory, images, drives, table, commands, budget| {
+                let ran = (ORDINARY.run_written)(memory, images, drives, table, commands, budget);
+                for (image, drive) in images.iter_mut().zip(drives.units) {
+                    if let Some(first) = image.first_mut().filter(|_| !drive.present) {
+                        *first ^= 1;
+                    }
                 }
                 ran
             },

@@ -1,5 +1,5 @@
-//! The bench program: a deck in, its lines out. It has a board of its own,
-//! made afresh for every deck.
+//! The bench program: a deck in, its lines out. It has a board of its own, with
+//! unit 0 alone, made afresh for every deck.
 
 use crate::board::{Board, SECTOR_BYTES};
 use crate::drive::Drive;
@@ -53,7 +53,7 @@ pub fn bench_board(protected: bool) -> Board {
     for sector in 0..drive.number_of_sectors() {
         image.extend(vec![sector as u8; SECTOR_BYTES as usize]);
     }
-    Board { memory: vec![0; BENCH_MEMORY], image, drive }
+    Board::with_unit_0(vec![0; BENCH_MEMORY], drive, image)
 }
 
 /// Runs a deck.

@@ -1,8 +1,9 @@
 //! The code that a command will get, from what the walk copies, and how many
 //! sectors would have fitted. The first code that applies wins, in the order of
-//! document 01 and ticket 2 of document 02; the number is ticket 4.
+//! document 01 and ticket 2 of document 02; the number is ticket 4, and whose
+//! drive is asked ticket 5.
 
-use crate::board::{Board, SECTOR_BYTES};
+use crate::board::{Board, Unit, SECTOR_BYTES};
 use crate::iopb::Fields;
 use crate::link_list::{elements_said, read_list};
 use crate::range::{sum_of_lengths, Range};
@@ -85,12 +86,11 @@ fn found_before_data(board: &Board, fields: &Fields) -> Option<Found> {
 }
 
 /// The codes that a transfer gets for its unit, its count, its place on the
-/// drive, or the drive's protection.
+/// unit's own drive, or that drive's protection.
 fn found_by_drive(board: &Board, fields: &Fields) -> Option<Found> {
-    let drive = &board.drive;
-    if fields.unit != 0 {
+    let Some(Unit { drive, .. }) = board.unit(fields.unit) else {
         return Some(Found::code(0x42));
-    }
+    };
     if fields.count == 0 {
         return Some(Found::code(0x13));
     }

@@ -1,10 +1,14 @@
 //! What each command reads and writes, as real sets of memory bytes and of
-//! sectors, and whether two commands conflict. Asked only of sound tables, so
-//! the sets are never larger than memory and drive.
+//! sectors of its unit, and whether two commands conflict. Asked only of sound
+//! tables, so the sets are never larger than memory and drive.
 
 use crate::range::Range;
 use crate::record::Record;
 use std::collections::BTreeSet;
+
+/// A sector: its unit and its number there. Those of different units are never
+/// the same, whatever their numbers.
+pub type Sector = (u8, u64);
 
 /// Everything that one command reads and writes, from its first step to its
 /// close, whatever steps it has taken already.
@@ -12,8 +16,8 @@ use std::collections::BTreeSet;
 pub struct Touched {
     pub memory_read: BTreeSet<u64>,
     pub memory_written: BTreeSet<u64>,
-    pub sectors_read: BTreeSet<u64>,
-    pub sectors_written: BTreeSet<u64>,
+    pub sectors_read: BTreeSet<Sector>,
+    pub sectors_written: BTreeSet<Sector>,
 }
 
 /// The four status bytes of a command's own IOPB.
@@ -31,13 +35,15 @@ pub fn data_bytes(record: &Record) -> BTreeSet<u64> {
     record.data_ranges().iter().flat_map(Range::bytes).collect()
 }
 
-/// The sectors of a transfer with code 00; none for any other command.
-pub fn sectors(record: &Record) -> BTreeSet<u64> {
+/// The sectors of a transfer with code 00, on its own unit; none for any other
+/// command.
+pub fn sectors(record: &Record) -> BTreeSet<Sector> {
     if !record.is_transfer() {
         return BTreeSet::new();
     }
     let first = u64::from(record.sector);
-    (first..first + u64::from(record.count)).collect()
+    let numbers = first..first + u64::from(record.count);
+    numbers.map(|number| (record.unit, number)).collect()
 }
 
 /// The four sets of a command.
@@ -68,6 +74,6 @@ fn writes_into(writer: &Touched, other: &Touched) -> bool {
 }
 
 /// Two sets have something in common.
-pub fn meet(one: &BTreeSet<u64>, other: &BTreeSet<u64>) -> bool {
+pub fn meet<T: Ord>(one: &BTreeSet<T>, other: &BTreeSet<T>) -> bool {
     !one.is_disjoint(other)
 }

@@ -1,5 +1,5 @@
 //! A second, independent model of the board, written from document 01, tickets 1
-//! to 4 of document 02 and the manual alone. It is slow and plain on purpose: it
+//! to 5 of document 02 and the manual alone. It is slow and plain on purpose: it
 //! says what the rules say, so that a faster board can be held against it, case by
 //! case.
 

@@ -65,13 +65,14 @@ pub fn take_step(board: &mut Board, record: &mut Record) {
     }
 }
 
-/// Moves the next sector, byte by byte in list order: where ranges overlap, a
-/// read leaves what it filled last.
+/// Moves the next sector of the command's own unit, byte by byte in list order:
+/// where ranges overlap, a read leaves what it filled last.
 fn move_sector(board: &mut Board, record: &Record) {
     let step = u64::from(record.taken);
     let in_memory = bytes_end_to_end(&record.data_ranges(), SECTOR_BYTES * step, SECTOR_BYTES);
     let in_image = (SECTOR_BYTES * (u64::from(record.sector) + step)) as usize;
-    let sector = &mut board.image[in_image..in_image + SECTOR_BYTES as usize];
+    let image = &mut board.units[usize::from(record.unit)].image;
+    let sector = &mut image[in_image..in_image + SECTOR_BYTES as usize];
     for (byte, address) in sector.iter_mut().zip(in_memory) {
         let other = &mut board.memory[address as usize];
         if record.reads_sectors() {
@@ -84,12 +85,13 @@ fn move_sector(board: &mut Board, record: &Record) {
 
 /// Writes the four status bytes. All are made from the record, since data may
 /// have come to lie over the IOPB in the meantime; so is byte 3, whatever the
-/// code.
+/// code. Byte 2 asks the unit that the record names, as it is now.
 fn close(board: &mut Board, record: &Record) {
     let errs = if record.code == 0 { 0 } else { ERRS };
     let first = record.iopb as usize;
     board.memory[first] = (record.byte0 & !ERRS) | DONE | errs;
     board.memory[first + 1] = record.code;
-    board.memory[first + 2] = if board.drive.protected { 0x13 } else { 0x03 };
+    let protected = board.drive_of(u64::from(record.unit)).protected;
+    board.memory[first + 2] = if protected { 0x13 } else { 0x03 };
     board.memory[first + 3] = record.fitted;
 }

@@ -10,8 +10,8 @@ use std::collections::BTreeSet;
 /// The most commands that a table may have.
 pub const MOST_COMMANDS: u64 = 32;
 
-/// What the walk copies from one IOPB and its link list, its code, how many
-/// sectors would have fitted, and the steps taken so far.
+/// What the walk copies from one IOPB and its link list, its unit among it, its
+/// code, how many sectors would have fitted, and the steps taken so far.
 #[derive(Clone, Copy, Debug, Default, PartialEq, Eq)]
 pub struct Record {
     pub iopb: u32,
@@ -27,8 +27,8 @@ pub struct Record {
     /// How many sectors would have fitted: the close posts it as it stands. A
     /// table made by hand may hold any number with any code.
     pub fitted: u8,
-    /// A byte that no one looks at, for the digest like those below.
-    pub unused_byte: u8,
+    /// The unit: 0 to 7 after a walk. A table made by hand may name any.
+    pub unit: u8,
     pub list: [Range; MOST_ELEMENTS as usize],
     /// Two bytes beside each range that no one looks at: 0 after a walk. They
     /// are here for the digest, so that a board which fills them is found out.
@@ -106,11 +106,12 @@ pub enum Cause {
     LengthsOff,
     SectorsOutside,
     WriteProtected,
+    UnitAbsent,
 }
 
 /// Every cause of number 9 in the table; number 9 is given exactly where
-/// there is one. Only records in use are looked at, and of none how many
-/// sectors would have fitted.
+/// there is one. Only records in use are looked at, of none how many sectors
+/// would have fitted, and of transfers alone the unit.
 pub fn causes(board: &Board, table: &[Record], commands: u64) -> BTreeSet<Cause> {
     let mut found = BTreeSet::new();
     if commands > MOST_COMMANDS {
@@ -138,11 +139,22 @@ fn causes_in_record(board: &Board, record: &Record, found: &mut BTreeSet<Cause>)
         found.insert(Cause::CountZero);
     }
     causes_in_data(board, record, found);
+    causes_in_unit(board, record, found);
+}
+
+/// What is wrong with the unit of a transfer, or with its sectors there. One on
+/// an absent unit has this cause and needs no other, so the drive that an absent
+/// unit counts as is not asked.
+fn causes_in_unit(board: &Board, record: &Record, found: &mut BTreeSet<Cause>) {
+    let Some(unit) = board.unit(u64::from(record.unit)) else {
+        found.insert(Cause::UnitAbsent);
+        return;
+    };
     let past_last = u64::from(record.sector) + u64::from(record.count);
-    if past_last > board.drive.number_of_sectors() {
+    if past_last > unit.drive.number_of_sectors() {
         found.insert(Cause::SectorsOutside);
     }
-    if record.writes_sectors() && board.drive.protected {
+    if record.writes_sectors() && unit.drive.protected {
         found.insert(Cause::WriteProtected);
     }
 }

@@ -65,7 +65,8 @@ fn follow(board: &Board, start: u64, reached: &mut Vec<u64>) -> Result<Vec<Recor
 }
 
 fn record_of(board: &Board, address: u64, fields: &Fields) -> Record {
-    let drive = &board.drive;
+    // On an absent unit this is cylinder + head + sector.
+    let drive = board.drive_of(fields.unit);
     let sector = drive.sector_number(fields.cylinder, fields.head, fields.sector);
     let found = find(board, address, fields);
     // The places past the last range are set too: to address 0, length 0.
@@ -81,7 +82,7 @@ fn record_of(board: &Board, address: u64, fields: &Fields) -> Record {
         code: found.code,
         ranges: found.list.len() as u16,
         fitted: found.fitted,
-        unused_byte: 0,
+        unit: fields.unit as u8,
         list,
         unused: [0; MOST_ELEMENTS as usize],
     }

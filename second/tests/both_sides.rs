@@ -82,7 +82,7 @@ fn odd_next_address_before_the_command() {
 fn protected_drive() {
     for (command, code) in [(WRITE, 0x90), (READ, 0x00)] {
         let mut board = bench_with(&[last_sector(command)]);
-        board.drive.protected = true;
+        board.units[0].drive.protected = true;
         let (number, commands, table) = walked(&board, 0);
         assert_eq!((number, commands, table[0].code), (0, 1, code));
     }
@@ -163,7 +163,7 @@ fn the_deck_moves_sector_ten_to_sixteen() {
     let run = run_written(&mut board, &mut table, 3, u64::MAX);
     assert_eq!((run.number, run.steps, run.finished), (0, 3, true));
     assert_eq!(board.memory[0x400..0x600], [10; 512]);
-    assert_eq!(board.image[16 * 512..17 * 512], [10; 512]);
+    assert_eq!(board.units[0].image[16 * 512..17 * 512], [10; 512]);
     assert_eq!(board.memory[0x00..0x04], [0x62, 0x00, 0x03, 0x00]);
     assert_eq!(board.memory[0x20..0x24], [0x61, 0x00, 0x03, 0x00]);
     assert_eq!(board.memory[0x40..0x44], [0xC2, 0x13, 0x03, 0x00]);

@@ -1,10 +1,11 @@
 //! Random chains against what document 01 demands of any order of steps:
 //! whatever is picked, the rest done as written ends as the whole chain does.
 
-use second::board::Board;
+use second::board::{Board, Unit};
 use second::drive::Drive;
 use second::makers::chain::random_chain;
 use second::makers::rng::Rng;
+use second::makers::unit_cases::on_some_unit;
 use second::pick::pick;
 use second::record::Record;
 use second::run::{all_finished, run_picks, run_written};
@@ -22,7 +23,7 @@ struct Walked {
     commands: u64,
 }
 
-fn random_board(rng: &mut Rng) -> Board {
+fn random_unit(rng: &mut Rng) -> Unit {
     let max_sector = rng.below(6);
     let drive = Drive {
         max_cylinder: rng.below(4) as u16,
@@ -31,9 +32,25 @@ fn random_board(rng: &mut Rng) -> Board {
         last_head_max_sector: rng.between(0, max_sector) as u8,
         protected: rng.percent(8),
     };
-    let image = rng.bytes(512 * drive.number_of_sectors());
+    Unit::with(drive, rng.bytes(512 * drive.number_of_sectors()))
+}
+
+/// Unit 0 alone, or with others that are there or absent; of an absent one the
+/// image may be anything.
+fn random_board(rng: &mut Rng) -> Board {
     let length = rng.between(512, 6_000);
-    Board { memory: rng.bytes(length), image, drive }
+    let Unit { drive, image, .. } = random_unit(rng);
+    let mut board = Board::with_unit_0(rng.bytes(length), drive, image);
+    if rng.percent(50) {
+        for unit in 1..4 {
+            board.units[unit] = random_unit(rng);
+            board.units[unit].there = rng.percent(70);
+        }
+    }
+    for unit in board.units.iter_mut().filter(|unit| !unit.there) {
+        unit.image.truncate(700);
+    }
+    board
 }
 
 fn put(board: &mut Board, address: u64, bytes: &[u8]) {
@@ -45,7 +62,13 @@ fn put(board: &mut Board, address: u64, bytes: &[u8]) {
 fn next_chain(rng: &mut Rng) -> Walked {
     loop {
         let mut board = random_board(rng);
-        let chain = random_chain(rng, &board);
+        let drive = board.units[0].drive;
+        let mut chain = random_chain(rng, board.memory_bytes(), &drive);
+        if board.present().count() > 1 {
+            for (_, block) in &mut chain.blocks {
+                *block = on_some_unit(rng, &board, &drive, *block);
+            }
+        }
         for (address, bytes) in &chain.lists {
             put(&mut board, *address, bytes);
         }
@@ -138,10 +161,12 @@ fn refused_calls_change_no_byte() {
         let Walked { mut board, mut table, commands } = next_chain(&mut rng);
         let list = random_picks(&mut rng, commands);
         run_picks(&mut board, &mut table, commands, &list[..list.len() / 2]);
+        let there: Vec<usize> = (0..4).filter(|unit| board.units[*unit].there).collect();
+        let drive = &mut board.units[rng.one_of(&there)].drive;
         match rng.below(3) {
             0 => table[rng.below(commands) as usize].taken = u32::MAX,
-            1 => board.drive.max_cylinder += 1,
-            _ => board.drive.last_head_max_sector = board.drive.max_sector + 1,
+            1 => drive.max_cylinder += 1,
+            _ => drive.last_head_max_sector = drive.max_sector + 1,
         }
         let before = (board.clone(), table);
         assert_ne!(pick(&mut board, &mut table, commands, 0), 0);
@@ -184,7 +209,10 @@ fn distinct(addresses: &[usize]) -> bool {
 /// Takes one step as written, and holds a read against what was last written,
 /// where no two of its bytes lie in one place. Gives whether there was anything
 /// to hold it against, and whether by lists: on the write's side, the read's.
-fn step_and_compare(walked: &mut Walked, written: &mut [Option<Written>]) -> Option<(bool, bool)> {
+fn step_and_compare(
+    walked: &mut Walked,
+    written: &mut BTreeMap<(u8, u32), Written>,
+) -> Option<(bool, bool)> {
     let Walked { board, table, commands } = walked;
     let place = table.iter().position(|record| !record.finished()).unwrap();
     let record = table[place];
@@ -194,16 +222,16 @@ fn step_and_compare(walked: &mut Walked, written: &mut [Option<Written>]) -> Opt
         return None;
     }
     let addresses = next_addresses(&record);
-    let sector = (record.sector + record.taken) as usize;
+    let sector = (record.unit, record.sector + record.taken);
     if record.writes_sectors() {
         let bytes = addresses.iter().map(|address| board.memory[*address]).collect();
-        written[sector] = Some(Written { bytes, by_list });
+        written.insert(sector, Written { bytes, by_list });
     }
     assert_eq!(run_written(board, table, *commands, 1).steps, 1);
     if !record.reads_sectors() || !distinct(&addresses) {
         return None;
     }
-    let expected = written[sector].as_ref()?;
+    let expected = written.get(&sector)?;
     let closed = table[place].finished();
     let status = record.iopb as usize..record.iopb as usize + 4;
     for (address, byte) in addresses.iter().zip(&expected.bytes) {
@@ -219,22 +247,23 @@ fn step_and_compare(walked: &mut Walked, written: &mut [Option<Written>]) -> Opt
 fn a_sector_reads_back_as_it_was_written() {
     let mut rng = Rng::new(34);
     let mut compared = BTreeMap::new();
+    let mut other_units = 0;
     for _ in 0..CHAINS {
         let mut walked = next_chain(&mut rng);
-        let sectors = walked.board.drive.number_of_sectors() as usize;
-        let mut written = vec![None; sectors];
+        let mut written = BTreeMap::new();
         while !all_finished(&walked.table[..walked.commands as usize]) {
             if let Some(by_lists) = step_and_compare(&mut walked, &mut written) {
                 *compared.entry(by_lists).or_insert(0) += 1;
             }
         }
         // Looked at in the end, every sector is as it was last written.
-        for (sector, last) in written.iter().enumerate() {
-            if let Some(Written { bytes, .. }) = last {
-                assert_eq!(second::look::look(&walked.board, sector as u64), bytes.as_slice());
-            }
+        for ((unit, sector), last) in written {
+            let seen = second::look::look(&walked.board, unit.into(), sector.into());
+            assert_eq!(seen, last.bytes.as_slice());
+            other_units += u64::from(unit != 0);
         }
     }
+    assert!(other_units > 1_000, "only {other_units} sectors of units 1 to 3");
     for by_lists in [(false, false), (false, true), (true, false), (true, true)] {
         let number = compared.get(&by_lists).copied().unwrap_or(0);
         assert!(number > 300, "only {number} reads to compare, by lists {by_lists:?}");

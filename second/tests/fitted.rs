@@ -36,7 +36,7 @@ fn protected(drive: Drive) -> Drive {
 /// A board of a drive and so many bytes of memory, all of them 238.
 fn ground(drive: Drive, memory_bytes: usize) -> Board {
     let image = vec![17; 512 * drive.number_of_sectors() as usize];
-    Board { memory: vec![238; memory_bytes], image, drive }
+    Board::with_unit_0(vec![238; memory_bytes], drive, image)
 }
 
 fn put(board: &mut Board, at: usize, bytes: &[u8]) {
@@ -310,7 +310,7 @@ fn a_number_by_hand_with_a_list() {
 /// other bytes there.
 fn laid_over(second: Block, over: Block) -> (Board, Table) {
     let mut board = ground(bench(), 0x1000);
-    board.image[512 + 0x10..512 + 0x10 + 30].copy_from_slice(&over.bytes);
+    board.units[0].image[512 + 0x10..512 + 0x10 + 30].copy_from_slice(&over.bytes);
     put(&mut board, 0, &first().at(0, 0, 1).data(0x200).next(0x210).bytes);
     put(&mut board, 0x210, &second.bytes);
     let table = walked(&board, 2);
@@ -347,8 +347,8 @@ fn the_number_is_that_of_the_walk() {
     // Another count and address, a larger drive, and a longer memory.
     put(&mut board, 8, &[0, 40, 0, 0, 0, 0]);
     put(&mut board, 32 + 0x10, &[0, 0, 0, 0]);
-    board.drive = three_hundred();
-    board.image = vec![0; 512 * 300];
+    board.units[0].drive = three_hundred();
+    board.units[0].image = vec![0; 512 * 300];
     board.memory.resize(0x2000, 0);
     let reply = run_written(&mut board, &mut table, 2, u64::MAX);
     assert_eq!((reply.number, reply.steps), (0, 2));
@@ -366,7 +366,7 @@ fn a_refused_walk_keeps_the_numbers() {
     assert_eq!(table, junk);
     put(&mut board, 0, &first().bytes);
     assert_eq!(walk(&board, &mut table, 0).number, 0);
-    assert_eq!((table[0].fitted, table[0].unused_byte, table[1].fitted), (0, 0, 77));
+    assert_eq!((table[0].fitted, table[0].unit, table[1].fitted), (0, 0, 77));
 }
 
 #[test]

@@ -35,11 +35,14 @@ fn the_unit_has_three_bits() {
 #[test]
 fn status_byte_two_whatever_the_code() {
     for (protected, expected) in [(false, 0x03), (true, 0x13)] {
-        for block in [Block::new(0), Block::new(9), Block::new(2).unit(4), Block::new(0).next(1)] {
-            let (mut board, mut table) = one(block);
-            board.drive.protected = protected;
-            assert_eq!(pick(&mut board, &mut table, 1, 0), 0);
-            assert_eq!(board.memory[2], expected);
+        for block in [Block::new(0), Block::new(9), Block::new(2), Block::new(0).next(1)] {
+            // Since ticket 5 the command's own unit is asked; unit 4 is never there.
+            for (unit, expected) in [(0, expected), (4, 0x03)] {
+                let (mut board, mut table) = one(block.unit(unit));
+                board.units[0].drive.protected = protected;
+                assert_eq!(pick(&mut board, &mut table, 1, 0), 0);
+                assert_eq!(board.memory[2], expected);
+            }
         }
     }
 }
@@ -51,7 +54,7 @@ fn a_close_writes_bytes_0_to_3_alone() {
     assert_eq!(pick(&mut board, &mut table, 1, 0), 0);
     assert_eq!(board.memory[..4], [0xC9, 0x14, 0x03, 0x00]);
     assert_eq!(board.memory[4..], before.memory[4..]);
-    assert_eq!(board.image, before.image);
+    assert_eq!(board.units[0].image, before.units[0].image);
 }
 
 #[test]
@@ -66,7 +69,7 @@ fn code_00_with_another_command_is_no_transfer() {
         assert_eq!((run.number, run.steps, run.finished), (0, 1, true));
         assert_eq!(board.memory[0x80..0x84], [closed, 0x00, 0x03, 0x00]);
         assert_eq!(board.memory[0x84..], before.memory[0x84..]);
-        assert_eq!(board.image, before.image);
+        assert_eq!(board.units[0].image, before.units[0].image);
     }
 }
 
@@ -106,7 +109,7 @@ fn errs_and_done_at_the_close() {
 fn number_with(change: impl Fn(&mut Record), protected: bool) -> u8 {
     let (mut board, mut table) = one(Block::new(2).at(0, 0, 7).count(2).data(0x400));
     change(&mut table[0]);
-    board.drive.protected = protected;
+    board.units[0].drive.protected = protected;
     run_written(&mut board, &mut table, 1, 0).number
 }
 
@@ -167,7 +170,7 @@ fn sizes_on_both_sides() {
         (64, 0, huge, 1),
         (64, 16_777_216, huge, 1),
     ] {
-        let mut board = Board { memory: vec![0; memory], image: vec![0; image], drive };
+        let mut board = Board::with_unit_0(vec![0; memory], drive, vec![0; image]);
         let mut table = [Record::default(); 40];
         assert_eq!(walk(&board, &mut table, 0).number, number);
         assert_eq!(walk(&board, &mut table[..31], 0).number, 1);
@@ -182,16 +185,16 @@ fn sizes_on_both_sides() {
 #[test]
 fn looks_on_both_sides() {
     let mut board = bench_board(false);
-    assert_eq!(look_number(&board, 31), 0);
-    assert_eq!(look(&board, 31), [31; 512]);
-    assert_eq!(look_number(&board, 32), 10);
-    assert!(look(&board, 32).is_empty());
+    assert_eq!(look_number(&board, 0, 31), 0);
+    assert_eq!(look(&board, 0, 31), [31; 512]);
+    assert_eq!(look_number(&board, 0, 32), 10);
+    assert!(look(&board, 0, 32).is_empty());
     board.memory = vec![0; 65_537];
-    assert_eq!(look_number(&board, 31), 0);
-    board.image.pop();
-    assert_eq!(look_number(&board, 31), 1);
-    assert_eq!(look_number(&board, 32), 1);
-    assert!(look(&board, 31).is_empty());
+    assert_eq!(look_number(&board, 0, 31), 0);
+    board.units[0].image.pop();
+    assert_eq!(look_number(&board, 0, 31), 1);
+    assert_eq!(look_number(&board, 0, 32), 1);
+    assert!(look(&board, 0, 31).is_empty());
 }
 
 #[test]

@@ -32,7 +32,7 @@ fn board_with(drive: Drive, sectors: u64, block: Block) -> Board {
     }
     memory[..30].copy_from_slice(&block.bytes);
     let image = (0..sectors).flat_map(|sector| [sector as u8; 512]).collect();
-    Board { memory, image, drive }
+    Board::with_unit_0(memory, drive, image)
 }
 
 fn pack_with(block: Block) -> Board {
@@ -84,7 +84,7 @@ fn codes_before_and_after_the_sector() {
     assert_eq!(code(at(1, 2, 2).count(2)), 0x12);
     assert_eq!(code(at(1, 2, 2).data(0xFFFF_FFFF)), 0x12);
     let mut board = pack_with(at(1, 2, 2).command(WRITE));
-    board.drive.protected = true;
+    board.units[0].drive.protected = true;
     assert_eq!(walked(&board)[0].code, 0x12);
 }
 
@@ -118,7 +118,7 @@ fn a_write_changes_the_sectors_that_it_names() {
         for sector in 0..24 {
             let named = first <= sector && sector < first + count;
             let byte = if named { 100 + (sector - first) } else { sector };
-            assert_eq!(look(&board, sector), [byte as u8; 512], "sector {sector}");
+            assert_eq!(look(&board, 0, sector), [byte as u8; 512], "sector {sector}");
         }
     }
 }
@@ -164,7 +164,7 @@ fn numbers(drive: Drive, sectors: u64) -> [u8; 5] {
         walk(&board, &mut table.clone(), 0).number,
         run_picks(&mut board, &mut table, 1, &[]).number,
         run_written(&mut board, &mut table, 1, 0).number,
-        look_number(&board, 0),
+        look_number(&board, 0, 0),
         pick(&mut board, &mut table, 1, 0),
     ];
     if numbers[4] != 0 {
@@ -211,9 +211,9 @@ fn number_nine_at_the_end_of_the_drive() {
 #[test]
 fn looks_at_the_end_of_the_drive() {
     let board = pack_with(at(0, 0, 0));
-    assert_eq!(look(&board, 23), [23; 512]);
+    assert_eq!(look(&board, 0, 23), [23; 512]);
     for (sector, expected) in [(11, 0), (12, 0), (23, 0), (24, 10), (29, 10), (30, 10)] {
-        assert_eq!(look_number(&board, sector), expected);
-        assert_eq!(look(&board, sector).is_empty(), expected != 0);
+        assert_eq!(look_number(&board, 0, sector), expected);
+        assert_eq!(look(&board, 0, sector).is_empty(), expected != 0);
     }
 }

@@ -37,7 +37,7 @@ fn put_block(board: &mut Board, at: usize, block: Block) {
 /// byte j is 3 times its distance from there, all in 8 bits.
 fn ground() -> Board {
     let mut board = bench_board(false);
-    for (at, byte) in board.image.iter_mut().enumerate() {
+    for (at, byte) in board.units[0].image.iter_mut().enumerate() {
         *byte = (at / 512 + at % 512) as u8;
     }
     for (k, byte) in board.memory[0x600..].iter_mut().enumerate() {
@@ -138,7 +138,7 @@ fn the_lengths_are_added_in_full() {
         (vec![(0x600, 512)], 129, 0x1C),
     ] {
         let drive = Drive::with_equal_heads(0, 0, 255);
-        let mut board = Board { memory: vec![0; 65_536], image: vec![0; 131_072], drive };
+        let mut board = Board::with_unit_0(vec![0; 65_536], drive, vec![0; 131_072]);
         put_list(&mut board, LIST, &pieces);
         put_block(&mut board, 0, listed(READ, count, &pieces).at(0, 0, 0));
         assert_eq!(walked(&board, 1)[0].code, expected);
@@ -194,7 +194,7 @@ fn the_first_that_applies() {
             assert_eq!((table[0].code, table[0].ranges), (expected, 0));
         }
         let mut board = one(listed(WRITE, 1, pieces), pieces).0;
-        board.drive.protected = true;
+        board.units[0].drive.protected = true;
         let record = walked(&board, 1)[0];
         assert_eq!((record.code, record.ranges), (0x90, 0));
     }
@@ -265,7 +265,7 @@ fn a_read_straddles_its_ranges() {
     }
     assert_eq!(board.memory[0xE0C..], before.memory[0xE0C..]);
     assert_eq!(board.memory[..4], [0x52, 0x00, 0x03, 0x00]);
-    assert_eq!(board.image, before.image);
+    assert_eq!(board.units[0].image, before.units[0].image);
 }
 
 #[test]
@@ -278,8 +278,8 @@ fn a_write_gathers_its_ranges() {
     let mut expected = before.memory[0x700..0x8FF].to_vec();
     expected.extend(&before.memory[0x600..0x602]);
     expected.extend(&before.memory[0xA00..0xBFF]);
-    assert_eq!(board.image[8 * 512..10 * 512], expected);
-    assert_eq!(board.image[..8 * 512], before.image[..8 * 512]);
+    assert_eq!(board.units[0].image[8 * 512..10 * 512], expected);
+    assert_eq!(board.units[0].image[..8 * 512], before.units[0].image[..8 * 512]);
     assert_eq!(board.memory[4..], before.memory[4..]);
 }
 
@@ -307,8 +307,8 @@ fn overlapping_ranges_fill_in_list_order() {
     let (mut board, mut table) = one(listed(WRITE, 2, &pieces), &pieces);
     let memory = board.memory.clone();
     run_written(&mut board, &mut table, 1, u64::MAX);
-    assert_eq!(board.image[8 * 512..9 * 512], memory[0x600..0x800]);
-    assert_eq!(board.image[9 * 512..10 * 512], memory[0x700..0x900]);
+    assert_eq!(board.units[0].image[8 * 512..9 * 512], memory[0x600..0x800]);
+    assert_eq!(board.units[0].image[9 * 512..10 * 512], memory[0x700..0x900]);
 }
 
 #[test]
@@ -320,7 +320,7 @@ fn one_range_is_as_good_as_none() {
         let plain = Block::new(command).at(0, 1, 0).count(2).data(0x702);
         let (mut board, mut table) = one(plain, &pieces);
         run_written(&mut board, &mut table, 1, u64::MAX);
-        assert_eq!(board.image, listed_board.image);
+        assert_eq!(board.units[0].image, listed_board.units[0].image);
         assert_eq!(board.memory[30..], listed_board.memory[30..]);
     }
 }
@@ -478,7 +478,7 @@ fn a_step_in_the_middle_of_a_list() {
 fn the_most_steps() {
     let drive = Drive::with_equal_heads(15, 15, 15);
     let image = vec![7; 512 * 4_096];
-    let mut board = Board { memory: vec![0; 65_536], image, drive };
+    let mut board = Board::with_unit_0(vec![0; 65_536], drive, image);
     put_list(&mut board, 0x2000, &[(0, 65_520); 32]);
     for k in 0..32 {
         let block = Block::new(READ).count(4_095).list(0x2000, 32);

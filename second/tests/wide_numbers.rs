@@ -87,9 +87,9 @@ fn counts_and_sizes_in_128_bits() {
         for sectors in [0, 1, 2, 128, 256] {
             let image = vec![0; 512 * sectors];
             let right = wide.bytes == image.len() as u128;
-            let board = Board { memory: Vec::new(), image, drive };
-            assert_eq!(board.image_right(), right, "{drive:?}");
-            assert_eq!(look_number(&board, 0), u8::from(!right), "{drive:?}");
+            let board = Board::with_unit_0(Vec::new(), drive, image);
+            assert_eq!(board.images_right(), right, "{drive:?}");
+            assert_eq!(look_number(&board, 0, 0), u8::from(!right), "{drive:?}");
         }
     }
 }
@@ -194,11 +194,11 @@ fn the_places_of_the_cases() {
     let mut numbers = Vec::new();
     play(wide_places::all, |state, line, answer| {
         if let (Line::Place(asked), Answer::Place { number, place }) = (line, answer) {
-            let expected = wide_place(&state.board.drive, u128::from(*asked));
-            assert_eq!((*number, *place), expected, "{asked} {:?}", state.board.drive);
+            let expected = wide_place(&state.board.units[0].drive, u128::from(*asked));
+            assert_eq!((*number, *place), expected, "{asked} {:?}", state.board.units[0].drive);
             numbers.push(*number);
         }
-        if let (Line::Look(asked), Some((_, number))) = (line, number_of(answer)) {
+        if let (Line::Look { sector: asked, .. }, Some((_, number))) = (line, number_of(answer)) {
             assert_eq!(number, if *asked == 3 { 0 } else { 10 });
         }
     });
@@ -260,9 +260,9 @@ fn the_sizes_of_the_cases() {
     let mut taken: Vec<&str> = Vec::new();
     play(wide_sizes::all, |state, _, answer| {
         let Some((word, number)) = number_of(answer) else { return };
-        let (board, image) = (&state.board, state.board.image.len() as u128);
-        let wide = wide(&board.drive);
-        assert_eq!(number == 1, wide.bytes != image, "{word} {:?}", board.drive);
+        let (board, image) = (&state.board, state.board.units[0].image.len() as u128);
+        let wide = wide(&board.units[0].drive);
+        assert_eq!(number == 1, wide.bytes != image, "{word} {:?}", board.units[0].drive);
         if number != 1 {
             taken.push(word);
             return;
@@ -271,7 +271,7 @@ fn the_sizes_of_the_cases() {
         // The largest drive tempts nobody with an image that is not empty.
         let largest_with_some = wide.sectors == BITS_32 && image > 0;
         let hidden = |bits: u32| wide.bytes % (1 << bits) == image;
-        assert_eq!((16..=41).any(hidden), !largest_with_some, "{:?}", board.drive);
+        assert_eq!((16..=41).any(hidden), !largest_with_some, "{:?}", board.units[0].drive);
     });
     for word in ["walk", "lentwalk", "pick", "lentpick", "picks", "written", "look"] {
         assert!(refused.contains(&word) && taken.contains(&word), "{word}");
@@ -281,14 +281,14 @@ fn the_sizes_of_the_cases() {
 /// The numbers of the calls that ask for sizes: walk, pick, both runs and look.
 fn numbers(drive: Drive, sectors: usize) -> [u8; 5] {
     let image = vec![7; 512 * sectors];
-    let mut board = Board { memory: vec![0; 1_024], image, drive };
+    let mut board = Board::with_unit_0(vec![0; 1_024], drive, image);
     let mut table = [Record::default(); 32];
     table[0] = Record { count: 1, byte0: READ, data: 0x200, ..Record::default() };
     [
         walk(&board, &mut table.clone(), 0).number,
         run_picks(&mut board, &mut table, 1, &[]).number,
         run_written(&mut board, &mut table, 1, 0).number,
-        look_number(&board, 0),
+        look_number(&board, 0, 0),
         pick(&mut board, &mut table, 1, 0),
     ]
 }
@@ -372,13 +372,15 @@ fn the_records_of_the_cases() {
         if reply.number != 0 {
             return;
         }
-        let wide = wide(&state.board.drive);
+        let wide = wide(&state.board.units[0].drive);
         for (record, address) in state.table.iter().zip(&reply.reached) {
             let fields = fields_at(&state.board, *address);
             let (cylinder, head) = (u128::from(fields.cylinder), u128::from(fields.head));
-            let number = cylinder * wide.per_cylinder + head * wide.track;
-            let number = number + u128::from(fields.sector);
-            assert_eq!(u128::from(record.sector), number, "{:?}", state.board.drive);
+            // Every unit but 0 is absent here: one sector a track and a cylinder.
+            let (per_cylinder, track) =
+                if fields.unit == 0 { (wide.per_cylinder, wide.track) } else { (1, 1) };
+            let number = cylinder * per_cylinder + head * track + u128::from(fields.sector);
+            assert_eq!(u128::from(record.sector), number, "{:?}", state.board.units[0].drive);
             found.push(number);
         }
     });
@@ -397,7 +399,7 @@ fn spoiled(board: &Board, record: &Record) -> bool {
     u128::from(record.iopb) + 30 > memory
         || u128::from(record.taken) > steps
         || moves && u128::from(record.data) + 512 * count > memory
-        || moves && u128::from(record.sector) + count > wide(&board.drive).sectors
+        || moves && u128::from(record.sector) + count > wide(&board.units[0].drive).sectors
 }
 
 #[test]
@@ -412,7 +414,8 @@ fn the_tables_of_the_cases() {
             });
             assert_eq!(*steps, counts.sum::<u64>());
         }
-        let (Some((_, number)), false) = (number_of(answer), matches!(line, Line::Look(_))) else {
+        let looked = matches!(line, Line::Look { .. });
+        let (Some((_, number)), false) = (number_of(answer), looked) else {
             return;
         };
         let nine = spoiled(&state.board, &state.table[0]);
@@ -444,7 +447,7 @@ fn tables_by_hand() {
         (0, 0xFFFF_0000, 128, 9),
     ] {
         let image = vec![3; 512 * 256];
-        let mut board = Board { memory: vec![0; 65_536], image, drive: drive(0, 0, 255, 255) };
+        let mut board = Board::with_unit_0(vec![0; 65_536], drive(0, 0, 255, 255), image);
         let mut table = [Record::default(); 32];
         table[0] = Record { sector, data, count, byte0: READ, ..Record::default() };
         assert_eq!(run_written(&mut board, &mut table, 1, 0).number, expected);

@@ -8,20 +8,19 @@ use mathlib.Core.Bool.{Bool}
 use mathlib.Core.List.{List}
 use lib.ListN.{length, getD, set}
 use lib.Seq.{set-getD, set-set, getD-set-same}
-use Rattle.meaning.specs.declared.Drive.{Drive}
+use Rattle.meaning.specs.Drives.{Drives}
 use Rattle.meaning.specs.declared.Record.{Record}
-use Rattle.meaning.specs.Store.{Store, memory, theDisk, lent}
+use Rattle.meaning.specs.Store.{Store}
 use Rattle.meaning.specs.State.{mostCommands}
 use Rattle.meaning.specs.Command.{remaining, noRecord}
-use Rattle.meaning.specs.Step.{step, stepped}
+use Rattle.meaning.specs.Step.{step, withTaken, stepped}
 use Rattle.meaning.specs.Pick.{placeNumber}
 use Rattle.meaning.specs.Run.{stepsDone}
 use Rattle.meaning.proofs.Means.{Means, holds, fails, means-lt}
 use Rattle.meaning.proofs.Numbers.{Free, place-free, free-place}
 use Rattle.meaning.proofs.Records.{some-unfinished, remaining-stepped}
 use Rattle.board.specs.Alike.{Alike}
-use Rattle.board.specs.Changes.{withTaken, tableWith}
-use Rattle.board.proofs.Edge.{lent-step}
+use Rattle.board.specs.Changes.{tableWith}
 use Rattle.board.proofs.Searching.{waits-still}
 use Rattle.board.proofs.Taken.{length-with}
 use Rattle.board.proofs.ByPicks.{PicksLeft, at-place, table-stepped, pick-taken}
@@ -41,49 +40,48 @@ module _ (t : List Record) (n p : ℕ) (inside : p < length t) (f : Free t n p) 
         first = waits-still t p inside ∙ f .first;
       }
 
-module _ (d : Drive) (n : ℕ) (ps m₀ i₀ : List ℕ) (t : List Record) (searched : List ℕ) (refused p : ℕ) (small : p < mostCommands) where
-  abbrev Left : List ℕ → List ℕ → List ℕ → ℕ → ℕ → Type 0
-  Left m i taken steps k = PicksLeft d n ps m₀ i₀ t m i taken searched steps refused k
+module _ (d : Drives) (n : ℕ) (ps : List ℕ) (s₀ : Store) (t : List Record) (searched : List ℕ) (refused p : ℕ) (small : p < mostCommands) where
+  abbrev Left : Store → List ℕ → ℕ → ℕ → Type 0
+  Left s taken steps k = PicksLeft d n ps s₀ t s taken searched steps refused k
 
-  same-left : {m m′ i i′ taken taken′ : List ℕ} {steps steps′ k k′ : ℕ} → m ≡ m′ → i ≡ i′ → taken ≡ taken′ → steps ≡ steps′ → k ≡ k′ → Left m i taken steps k → Left m′ i′ taken′ steps′ k′
-  same-left {m} {m′} {i} {i′} {taken} {taken′} {steps} {steps′} {k} {k′} em ei et es ek w =
-      subst (λ (x : List ℕ). Left x i′ taken′ steps′ k′) em
-      (subst (λ (x : List ℕ). Left m x taken′ steps′ k′) ei
-      (subst (λ (x : List ℕ). Left m i x steps′ k′) et
-      (subst (λ (x : ℕ). Left m i taken x k′) es
-      (subst (λ (x : ℕ). Left m i taken steps x) ek w))))
+  same-left : {s s′ : Store} {taken taken′ : List ℕ} {steps steps′ k k′ : ℕ} → s ≡ s′ → taken ≡ taken′ → steps ≡ steps′ → k ≡ k′ → Left s taken steps k → Left s′ taken′ steps′ k′
+  same-left {s} {s′} {taken} {taken′} {steps} {steps′} {k} {k′} es et ep ek w =
+      subst (λ (x : Store). Left x taken′ steps′ k′) es
+      (subst (λ (x : List ℕ). Left s x steps′ k′) et
+      (subst (λ (x : ℕ). Left s taken x k′) ep
+      (subst (λ (x : ℕ). Left s taken steps x) ek w)))
 
-  pub picks-in-a-row : (j : ℕ) (m i taken : List ℕ) (steps k : ℕ) (r : Record) (m′ i′ : List ℕ)
-      → Left m i taken steps k
+  pub picks-in-a-row : (j : ℕ) (s : Store) (taken : List ℕ) (steps k : ℕ) (r : Record) (s′ : Store)
+      → Left s taken steps k
       → r ≡ getD (tableWith taken t) p noRecord
       → (1 ≤ j → placeNumber (tableWith taken t) n p ≡ 0)
       → j ≤ remaining r
       → k + j ≤ length ps
       → ((x : ℕ) → x < j → getD ps (k + x) 0 ≡ p)
-      → lent m′ i′ ≡ stepsDone d j r (lent m i)
-      → Left m′ i′ (set taken p (r .taken + j)) (steps + j) (k + j)
+      → s′ ≡ stepsDone d j r s
+      → Left s′ (set taken p (r .taken + j)) (steps + j) (k + j)
   unfolding stepsDone withTaken stepped
-  picks-in-a-row zero m i taken steps k r m′ i′ w er e l there same es =
-      let at : r .taken ≡ getD taken p 0 = ap (λ (x : Record). x .taken) (er ∙ sym (at-place d n ps m₀ i₀ t m i taken searched steps refused k w p small)) in
+  picks-in-a-row zero s taken steps k r s′ w er e l there same es =
+      let at : r .taken ≡ getD taken p 0 = ap (λ (x : Record). x .taken) (er ∙ sym (at-place d n ps s₀ t s taken searched steps refused k w p small)) in
       let as-was : set taken p (r .taken + 0) ≡ taken = ap (set taken p) (add-zero (r .taken) ∙ at) ∙ set-getD taken p 0 in
-      same-left (sym (ap (λ (s : Store). s memory) es)) (sym (ap (λ (s : Store). s theDisk) es)) (sym as-was) (sym (add-zero steps)) (sym (add-zero k)) w
-  picks-in-a-row (suc j) m i taken steps k r m′ i′ w er e l there same es =
+      same-left (sym es) (sym as-was) (sym (add-zero steps)) (sym (add-zero k)) w
+  picks-in-a-row (suc j) s taken steps k r s′ w er e l there same es =
       let now = tableWith taken t in
       let here : getD ps k 0 ≡ p = ap (λ (x : ℕ). getD ps x 0) (sym (add-zero k)) ∙ same 0 (omega arith) in
       let zero-here = e (omega arith) in
       let at-pick : r ≡ getD now (getD ps k 0) noRecord = er ∙ ap (λ (x : ℕ). getD now x noRecord) (sym here) in
       let small-here : getD ps k 0 < mostCommands = rw here small in
       let free-here : placeNumber now n (getD ps k 0) ≡ 0 = ap (placeNumber now n) here ∙ zero-here in
-      let u = step d r (lent m i) in
+      let u = step d r s in
       let taken₁ = set taken p (r .taken + 1) in
       let inside : p < length now = omega (arith, length-with taken t, w .full) in
-      let w₁ : Left (u memory) (u theDisk) taken₁ (steps + 1) (k + 1) =
-      subst (λ (x : ℕ). Left (u memory) (u theDisk) (set taken x (r .taken + 1)) (steps + 1) (k + 1)) here
-      (pick-taken d n ps m₀ i₀ t m i taken searched steps refused k w r at-pick small-here (u memory) (u theDisk) (omega arith) free-here (lent-step d r m i))
+      let w₁ : Left u taken₁ (steps + 1) (k + 1) =
+      subst (λ (x : ℕ). Left u (set taken x (r .taken + 1)) (steps + 1) (k + 1)) here
+      (pick-taken d n ps s₀ t s taken searched steps refused k w r at-pick small-here u (omega arith) free-here refl)
       in
       let now-is : tableWith taken₁ t ≡ set now p (stepped (getD now p noRecord)) =
       subst (λ (x : ℕ). tableWith (set taken x (r .taken + 1)) t ≡ set now x (stepped (getD now x noRecord))) here
-      (table-stepped d n ps m₀ i₀ t m i taken searched steps refused k w r at-pick small-here)
+      (table-stepped d n ps s₀ t s taken searched steps refused k w r at-pick small-here)
       in
       let er₁ : stepped r ≡ getD (tableWith taken₁ t) p noRecord =
       ap stepped er ∙ sym (ap (λ (x : List Record). getD x p noRecord) now-is ∙ getD-set-same now p (stepped (getD now p noRecord)) noRecord inside)
@@ -93,12 +91,11 @@ module _ (d : Drive) (n : ℕ) (ps m₀ i₀ : List ℕ) (t : List Record) (sear
       λ h. ap (λ (x : List Record). placeNumber x n p) now-is ∙ free-place (set now p (stepped (getD now p noRecord))) n p (still-free now n p inside (place-free now n p zero-here) (two-left h))
       in
       let less = remaining-stepped r (omega arith) in
-      let moved : lent m′ i′ ≡ stepsDone d j (stepped r) (lent (u memory) (u theDisk)) = es ∙ ap (stepsDone d j (stepped r)) (sym (lent-step d r m i)) in
-      let w₂ = picks-in-a-row j (u memory) (u theDisk) taken₁ (steps + 1) (k + 1) (stepped r) m′ i′ w₁ er₁ next-free (omega arith) (omega arith)
-      (λ x h. let next : k + 1 + x ≡ k + suc x = omega arith in ap (λ (y : ℕ). getD ps y 0) next ∙ same (suc x) (omega arith)) moved
+      let w₂ = picks-in-a-row j u taken₁ (steps + 1) (k + 1) (stepped r) s′ w₁ er₁ next-free (omega arith) (omega arith)
+      (λ x h. let next : k + 1 + x ≡ k + suc x = omega arith in ap (λ (y : ℕ). getD ps y 0) next ∙ same (suc x) (omega arith)) es
       in
       let sums : r .taken + 1 + j ≡ r .taken + suc j = omega arith in
-      same-left refl refl (set-set taken p (r .taken + 1) (r .taken + 1 + j) ∙ ap (set taken p) sums) (omega arith) (omega arith) w₂
+      same-left refl (set-set taken p (r .taken + 1) (r .taken + 1 + j) ∙ ap (set taken p) sums) (omega arith) (omega arith) w₂
 
 -- ---- counting them
 

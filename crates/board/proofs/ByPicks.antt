@@ -11,66 +11,65 @@ use lib.ListN.{length, getD, drop, set, replicate, length-set, drop-of-length-le
 use lib.Seq.{drop-cons}
 use lib.Dec.{eqb}
 use borrow.Author.Tests.{eq-eqb, ne-eqb}
-use Rattle.meaning.specs.declared.Drive.{Drive}
+use Rattle.meaning.specs.Drives.{Drives}
 use Rattle.meaning.specs.declared.Record.{Record}
-use Rattle.meaning.specs.Store.{Store, memory, theDisk, lent}
-use Rattle.meaning.specs.State.{State, stateOf, mostCommands}
+use Rattle.meaning.specs.Store.{Store, memory, disk}
+use Rattle.meaning.specs.State.{State, stateIn, mostCommands}
 use Rattle.meaning.specs.Command.{finished, remaining, noRecord}
-use Rattle.meaning.specs.Step.{step, stepped}
+use Rattle.meaning.specs.Step.{step, withTaken, stepped}
 use Rattle.meaning.specs.Pick.{badRecord, placeNumber, pickNumber, stepAt}
 use Rattle.meaning.specs.Run.{Tally, onePick, picksFrom, byPicks, stepsLeft, allFinished, runNumber}
 use Rattle.meaning.proofs.Rows.{pass, stop}
 use Rattle.meaning.proofs.Means.{Means, holds, fails, means-eq}
 use Rattle.meaning.proofs.Numbers.{Passed, run-passed, passed-place, place-free, none-bad, store-right, most-32}
+use Rattle.meaning.proofs.Spaces.{AsLong}
 use Rattle.meaning.proofs.Records.{unfinished-some}
 use Rattle.meaning.proofs.Counts.{none-left, left-step}
 use Rattle.meaning.proofs.Still.{step-keeps-lengths, passed-step}
-use Rattle.board.specs.Changes.{withTaken, tableWith, takenOf}
+use Rattle.board.specs.Changes.{tableWith, takenOf}
 use Rattle.board.specs.Ready.{Ready}
 use Rattle.board.proofs.Moving.{ready}
 use Rattle.board.proofs.Searching.{Searched, searched-none, searched-still}
 use Rattle.board.proofs.Taken.{with-next, with-with, length-with, at-with, set-with, own-table}
 use Rattle.board.proofs.Runs.{tally}
 
--- k picks of ps are done, from m₀, i₀ and t; m, i and `taken` are memory, image and the steps taken now
-pub record PicksLeft (d : Drive) (n : ℕ) (ps m₀ i₀ : List ℕ) (t : List Record) (m i taken searched : List ℕ) (steps refused k : ℕ) : Type 0 where
+-- k picks of ps are done, from the store s₀ and the table t; s and `taken` are the store and the steps taken now
+pub record PicksLeft (d : Drives) (n : ℕ) (ps : List ℕ) (s₀ : Store) (t : List Record) (s : Store) (taken searched : List ℕ) (steps refused k : ℕ) : Type 0 where
   pub most : k ≤ length ps
   pub counted : steps + refused ≡ k
-  pub memory-length : length m ≡ length m₀
-  pub image-length : length i ≡ length i₀
+  pub as-long : AsLong s s₀
   pub full : length t ≡ mostCommands
   pub long : length taken ≡ mostCommands
-  pub passed : Passed d n (stateOf m i (tableWith taken t))
+  pub passed : Passed d n (stateIn s (tableWith taken t))
   pub search : Searched (tableWith taken t) searched
   pub over : steps + stepsLeft (tableWith taken t) n ≡ stepsLeft t n
-  pub left : byPicks d n ps (stateOf m₀ i₀ t) ≡ picksFrom d n (drop k ps) (tally steps refused (stateOf m i (tableWith taken t)))
+  pub left : byPicks d n ps (stateIn s₀ t) ≡ picksFrom d n (drop k ps) (tally steps refused (stateIn s (tableWith taken t)))
 
-pub picks-begin : (d : Drive) (n : ℕ) (ps m i : List ℕ) (t : List Record) (taken : List ℕ) → length t ≡ mostCommands → length taken ≡ mostCommands → taken ≡ takenOf t
-    → runNumber d n (stateOf m i t) ≡ 0 → PicksLeft d n ps m i t m i taken (replicate 32 0) 0 0 0
+pub picks-begin : (d : Drives) (n : ℕ) (ps : List ℕ) (s : Store) (t : List Record) (taken : List ℕ) → length t ≡ mostCommands → length taken ≡ mostCommands → taken ≡ takenOf t
+    → runNumber d n (stateIn s t) ≡ 0 → PicksLeft d n ps s t s taken (replicate 32 0) 0 0 0
 unfolding byPicks
-picks-begin d n ps m i t taken h l e z =
+picks-begin d n ps s t taken h l e z =
     let same : tableWith taken t ≡ t = ap (λ (ns : List ℕ). tableWith ns t) e ∙ own-table t in
     record {
       most = omega arith;
       counted = omega arith;
-      memory-length = refl;
-      image-length = refl;
+      as-long = λ p. refl;
       full = h;
       long = l;
-      passed = subst (λ (x : List Record). Passed d n (stateOf m i x)) (sym same) (run-passed d n (stateOf m i t) z);
+      passed = subst (λ (x : List Record). Passed d n (stateIn s x)) (sym same) (run-passed d n (stateIn s t) z);
       search = searched-none (tableWith taken t);
       over = zero-add (stepsLeft (tableWith taken t) n) ∙ ap (λ (x : List Record). stepsLeft x n) same;
-      left = ap (λ (x : List Record). picksFrom d n ps (tally 0 0 (stateOf m i x))) (sym same);
+      left = ap (λ (x : List Record). picksFrom d n ps (tally 0 0 (stateIn s x))) (sym same);
     }
 
 -- the first of the picks that are left
-next-pick : (d : Drive) (n k : ℕ) (ps : List ℕ) (y : Tally) → k < length ps → picksFrom d n (drop k ps) y ≡ picksFrom d n (drop (k + 1) ps) (onePick d n (getD ps k 0) y)
+next-pick : (d : Drives) (n k : ℕ) (ps : List ℕ) (y : Tally) → k < length ps → picksFrom d n (drop k ps) y ≡ picksFrom d n (drop (k + 1) ps) (onePick d n (getD ps k 0) y)
 unfolding picksFrom
 next-pick d n k ps y h =
     ap (λ (qs : List ℕ). picksFrom d n qs y) (drop-cons ps k 0 h) ∙ ap (λ (j : ℕ). picksFrom d n (drop j ps) (onePick d n (getD ps k 0) y)) (sym (add-one k))
 
-module _ (d : Drive) (n : ℕ) (ps m₀ i₀ : List ℕ) (t : List Record) (m i taken searched : List ℕ) (steps refused k : ℕ)
-    (w : PicksLeft d n ps m₀ i₀ t m i taken searched steps refused k) where
+module _ (d : Drives) (n : ℕ) (ps : List ℕ) (s₀ : Store) (t : List Record) (s : Store) (taken searched : List ℕ) (steps refused k : ℕ)
+    (w : PicksLeft d n ps s₀ t s taken searched steps refused k) where
   abbrev place : ℕ
   place = getD ps k 0
 
@@ -79,7 +78,7 @@ module _ (d : Drive) (n : ℕ) (ps m₀ i₀ : List ℕ) (t : List Record) (m i 
   now-table = tableWith taken t
 
   abbrev now-state : State
-  now-state = stateOf m i now-table
+  now-state = stateIn s now-table
 
   pub in-use-few : n ≤ mostCommands
   in-use-few = most-32 d n now-state (w .passed)
@@ -100,13 +99,12 @@ module _ (d : Drive) (n : ℕ) (ps m₀ i₀ : List ℕ) (t : List Record) (m i 
   passed-one e = pass _ _ _ (ne-eqb _ _ (λ q. e (sym same-number ∙ q)))
 
   -- a search has got further
-  pub searched-on : (to : List ℕ) → Searched now-table to → PicksLeft d n ps m₀ i₀ t m i taken to steps refused k
+  pub searched-on : (to : List ℕ) → Searched now-table to → PicksLeft d n ps s₀ t s taken to steps refused k
   searched-on to q =
       record {
         most = w .most;
         counted = w .counted;
-        memory-length = w .memory-length;
-        image-length = w .image-length;
+        as-long = w .as-long;
         full = w .full;
         long = w .long;
         passed = w .passed;
@@ -115,13 +113,12 @@ module _ (d : Drive) (n : ℕ) (ps m₀ i₀ : List ℕ) (t : List Record) (m i 
         left = w .left;
       }
 
-  pub pick-passed-over : k < length ps → (placeNumber now-table n place ≡ 0 → ⊥) → PicksLeft d n ps m₀ i₀ t m i taken searched steps (refused + 1) (k + 1)
+  pub pick-passed-over : k < length ps → (placeNumber now-table n place ≡ 0 → ⊥) → PicksLeft d n ps s₀ t s taken searched steps (refused + 1) (k + 1)
   pick-passed-over h e =
       record {
         most = omega arith;
         counted = omega (arith, w .counted);
-        memory-length = w .memory-length;
-        image-length = w .image-length;
+        as-long = w .as-long;
         full = w .full;
         long = w .long;
         passed = w .passed;
@@ -148,27 +145,26 @@ module _ (d : Drive) (n : ℕ) (ps m₀ i₀ : List ℕ) (t : List Record) (m i 
     pub some-left : placeNumber now-table n place ≡ 0 → 1 ≤ remaining r
     some-left e = rw er (unfinished-some (getD now-table place noRecord) (place-free now-table n place e .unfinished))
 
-    pub pick-ready : placeNumber now-table n place ≡ 0 → (j : ℕ) → j ≤ remaining r → Ready j r (lent m i)
+    pub pick-ready : placeNumber now-table n place ≡ 0 → (j : ℕ) → j ≤ remaining r → Ready j r (length (s memory)) (length (s (disk (r .unit))))
     pick-ready e j l =
-        ready d (lent m i) r j (store-right d n now-state (w .passed))
-        (ap (badRecord d (lent m i)) er ∙ none-bad d n now-state (w .passed) place (place-free now-table n place e .inUse)) l
+        ready d s r j (store-right d n now-state (w .passed))
+        (ap (badRecord d s) er ∙ none-bad d n now-state (w .passed) place (place-free now-table n place e .inUse)) l
 
-    pub pick-taken : (m′ i′ : List ℕ) → k < length ps → placeNumber now-table n place ≡ 0 → lent m′ i′ ≡ step d r (lent m i)
-        → PicksLeft d n ps m₀ i₀ t m′ i′ next-taken searched (steps + 1) refused (k + 1)
+    pub pick-taken : (s′ : Store) → k < length ps → placeNumber now-table n place ≡ 0 → s′ ≡ step d r s
+        → PicksLeft d n ps s₀ t s′ next-taken searched (steps + 1) refused (k + 1)
     unfolding stepAt
-    pick-taken m′ i′ h e es =
+    pick-taken s′ h e es =
         let x = getD now-table place noRecord in
-        let moved = es ∙ ap (λ (y : Record). step d y (lent m i)) er in
-        let same : stateOf m′ i′ (tableWith next-taken t) ≡ stepAt d place now-state = λ j. record { table = table-stepped j; store = moved j } in
-        let keeps = step-keeps-lengths d x (lent m i) in
+        let moved = es ∙ ap (λ (y : Record). step d y s) er in
+        let same : stateIn s′ (tableWith next-taken t) ≡ stepAt d place now-state = λ j. record { table = table-stepped j; store = moved j } in
+        let keeps = step-keeps-lengths d x s in
         let f = place-free now-table n place e in
         let in-now : place < length now-table = omega (arith, length-with taken t, w .full) in
         let fewer = left-step d n place now-state (let a = in-use-few in omega (arith, length-with taken t, w .full)) f in
         record {
           most = omega arith;
           counted = omega (arith, w .counted);
-          memory-length = ap (λ (u : Store). length (u memory)) moved ∙ keeps memory ∙ w .memory-length;
-          image-length = ap (λ (u : Store). length (u theDisk)) moved ∙ keeps theDisk ∙ w .image-length;
+          as-long = λ p. ap (λ (u : Store). length (u p)) moved ∙ keeps p ∙ w .as-long p;
           full = w .full;
           long = length-set taken place (r .taken + 1) ∙ w .long;
           passed = subst (Passed d n) (sym same) (passed-step d n place now-state e (w .passed));
@@ -182,7 +178,7 @@ module _ (d : Drive) (n : ℕ) (ps m₀ i₀ : List ℕ) (t : List Record) (m i 
 
   -- ---- every pick is done
 
-  pub all-picked : length ps ≤ k → byPicks d n ps (stateOf m₀ i₀ t) ≡ tally steps refused now-state
+  pub all-picked : length ps ≤ k → byPicks d n ps (stateIn s₀ t) ≡ tally steps refused now-state
   unfolding picksFrom
   all-picked h = w .left ∙ ap (λ (qs : List ℕ). picksFrom d n qs (tally steps refused now-state)) (drop-of-length-le ps {i = k} h)
 

@@ -17,7 +17,7 @@ use Rattle.meaning.proofs.Means.{Means, holds, fails, means-eq}
 use Rattle.command.specs.declared.touch.Footprint.{Footprint}
 use Rattle.command.specs.Footprints.{noFootprint, footprintOf, footprintsMeet}
 use Rattle.command.proofs.Touching.{no-conflict}
-use Rattle.board.specs.Changes.{withTaken}
+use Rattle.meaning.specs.Step.{withTaken}
 use Rattle.board.specs.Sight.{blocking}
 use Rattle.board.proofs.Searching.{finished-free, by-conflict}
 

@@ -9,11 +9,11 @@ use mathlib.Core.List.{List, [], _∷_, _++_}
 use lib.ListN.{length, getD, set, take, length-set, length-take}
 use lib.Seq.{take-suc, take-suc-set, take-all, getD-take}
 use lib.Dec.{ltb}
-use Rattle.meaning.specs.declared.Drive.{Drive}
+use Rattle.meaning.specs.Drives.{Drives}
 use Rattle.meaning.specs.declared.Record.{Record}
 use Rattle.meaning.specs.Each.{someOf, sumOf}
-use Rattle.meaning.specs.Store.{memory, lent}
-use Rattle.meaning.specs.State.{State, stateOf, mostCommands}
+use Rattle.meaning.specs.Store.{Store, memory}
+use Rattle.meaning.specs.State.{State, stateIn, mostCommands}
 use Rattle.meaning.specs.Sizes.{storeWrong}
 use Rattle.meaning.specs.Command.{remaining, noRecord}
 use Rattle.meaning.specs.Pick.{spoiled}
@@ -36,7 +36,7 @@ sum-append f [] ys = omega arith
 sum-append f (x ∷ xs) ys = omega (arith, sum-append f xs ys)
 
 -- k records are seen, of those of s; n are in use
-pub record Opened (d : Drive) (n : ℕ) (s : State) (taken : List ℕ) (seen : Seen) (k : ℕ) : Type 0 where
+pub record Opened (d : Drives) (n : ℕ) (s : State) (taken : List ℕ) (seen : Seen) (k : ℕ) : Type 0 where
   pub most : k ≤ mostCommands
   pub long : length taken ≡ mostCommands
   pub full : length (s .table) ≡ mostCommands
@@ -45,7 +45,7 @@ pub record Opened (d : Drive) (n : ℕ) (s : State) (taken : List ℕ) (seen : S
   pub sum : seen .left ≡ sumOf remaining (take k (take n (s .table)))
   pub bad : seen .spoiled ≡ (ltb mostCommands n || someOf (badIn (length (s .store memory)) d) (take k (take n (s .table))))
 
-pub opened-begin : (d : Drive) (n : ℕ) (s : State) (taken : List ℕ) → length taken ≡ mostCommands → length (s .table) ≡ mostCommands
+pub opened-begin : (d : Drives) (n : ℕ) (s : State) (taken : List ℕ) → length taken ≡ mostCommands → length (s .table) ≡ mostCommands
     → Opened d n s taken (record { left = 0; spoiled = ltb mostCommands n }) 0
 opened-begin d n s taken h l =
     record {
@@ -58,12 +58,12 @@ opened-begin d n s taken h l =
       bad = sym (or-no (ltb mostCommands n));
     }
 
-module _ (d : Drive) (n : ℕ) (m i : List ℕ) (t : List Record) (taken : List ℕ) (seen : Seen) (k : ℕ) (w : Opened d n (stateOf m i t) taken seen k) where
+module _ (d : Drives) (n : ℕ) (s : Store) (t : List Record) (taken : List ℕ) (seen : Seen) (k : ℕ) (w : Opened d n (stateIn s t) taken seen k) where
   abbrev here : Record
   here = getD t k noRecord
 
   abbrev isBad : Record → Bool
-  isBad = badIn (length m) d
+  isBad = badIn (length (s memory)) d
 
   -- the records in use of the first k + 1: one more, or the same
   used-more : k < mostCommands → k < n → take (k + 1) (take n t) ≡ take k (take n t) ++ here ∷ []
@@ -93,8 +93,8 @@ module _ (d : Drive) (n : ℕ) (m i : List ℕ) (t : List Record) (taken : List 
     w .bad ∙ ap (λ (rs : List Record). ltb mostCommands n || someOf isBad rs) (sym (used-same (omega arith))),
   )
 
-  pub opened-more : (x : Seen) → k < mostCommands → x ≡ seenWith (ltb k n) (badIn (length m) d here) (remaining here) seen → x .left ≤ seen .left + 4_294_967_295
-      → Opened d n (stateOf m i t) (set taken k (here .taken)) x (k + 1)
+  pub opened-more : (x : Seen) → k < mostCommands → x ≡ seenWith (ltb k n) (badIn (length (s memory)) d here) (remaining here) seen → x .left ≤ seen .left + 4_294_967_295
+      → Opened d n (stateIn s t) (set taken k (here .taken)) x (k + 1)
   opened-more x h e l =
       let both = one-seen h (means-lt k n) in
       record {
@@ -129,34 +129,34 @@ module _ (d : Drive) (n : ℕ) (m i : List ℕ) (t : List Record) (taken : List 
     all-left = w .sum ∙ ap (sumOf remaining) all-used
 
     -- where sizes are right, what was tested of the records is what number 9 asks
-    all-seen : storeWrong d (lent m i) ≡ false → seen .spoiled ≡ spoiled d n (stateOf m i t)
+    all-seen : storeWrong d s ≡ false → seen .spoiled ≡ spoiled d n (stateIn s t)
     unfolding spoiled
     all-seen right =
         w .bad
         ∙ ap (λ (rs : List Record). ltb mostCommands n || someOf isBad rs) all-used
-        ∙ sym (λ j. ltb mostCommands n || someOf (λ r. bad-in d (lent m i) right r j) (take n t))
+        ∙ sym (λ j. ltb mostCommands n || someOf (λ r. bad-in d s right r j) (take n t))
 
     -- and so the run's number is known
-    pub first-is-run : (many : ℕ) → firstNumber d many (seen .spoiled) (lent m i) ≡ runNumber d n (handed many (stateOf m i t))
+    pub first-is-run : (many : ℕ) → firstNumber d many (seen .spoiled) s ≡ runNumber d n (handed many (stateIn s t))
     unfolding runNumber
-    first-is-run many = go (storeWrong d (lent m i) || ltb many mostCommands) refl
+    first-is-run many = go (storeWrong d s || ltb many mostCommands) refl
       where
-        go : (b : Bool) → (storeWrong d (lent m i) || ltb many mostCommands) ≡ b → firstNumber d many (seen .spoiled) (lent m i) ≡ runNumber d n (handed many (stateOf m i t))
-        go true e = rw (sizes-handed d many (stateOf m i t) (w .full), e) refl
+        go : (b : Bool) → (storeWrong d s || ltb many mostCommands) ≡ b → firstNumber d many (seen .spoiled) s ≡ runNumber d n (handed many (stateIn s t))
+        go true e = rw (sizes-handed d many (stateIn s t) (w .full), e) refl
         go false e =
-            let right = or-false (storeWrong d (lent m i)) (ltb many mostCommands) e .0 in
-            rw (sizes-handed d many (stateOf m i t) (w .full), e)
-            (ap (λ (b : Bool). cond b 9 0) (all-seen right) ∙ ap (λ (x : State). cond (spoiled d n x) 9 0) (sym (all-handed d many (stateOf m i t) (w .full) e)))
+            let right = or-false (storeWrong d s) (ltb many mostCommands) e .0 in
+            rw (sizes-handed d many (stateIn s t) (w .full), e)
+            (ap (λ (b : Bool). cond b 9 0) (all-seen right) ∙ ap (λ (x : State). cond (spoiled d n x) 9 0) (sym (all-handed d many (stateIn s t) (w .full) e)))
 
     -- a run that is not refused has been handed all of its table
-    module _ (many k₁ : ℕ) (e : k₁ ≡ firstNumber d many (seen .spoiled) (lent m i)) where
-      pub number-is : k₁ ≡ runNumber d n (handed many (stateOf m i t))
+    module _ (many k₁ : ℕ) (e : k₁ ≡ firstNumber d many (seen .spoiled) s) where
+      pub number-is : k₁ ≡ runNumber d n (handed many (stateIn s t))
       number-is = e ∙ first-is-run many
 
-      pub whole-handed : k₁ ≡ 0 → handed many (stateOf m i t) ≡ stateOf m i t
+      pub whole-handed : k₁ ≡ 0 → handed many (stateIn s t) ≡ stateIn s t
       whole-handed z =
-          all-handed d many (stateOf m i t) (w .full)
-          (sym (sizes-handed d many (stateOf m i t) (w .full)) ∙ run-passed d n (handed many (stateOf m i t)) (sym number-is ∙ z) .sizes)
+          all-handed d many (stateIn s t) (w .full)
+          (sym (sizes-handed d many (stateIn s t) (w .full)) ∙ run-passed d n (handed many (stateIn s t)) (sym number-is ∙ z) .sizes)
 
-      pub run-goes : k₁ ≡ 0 → runNumber d n (stateOf m i t) ≡ 0
+      pub run-goes : k₁ ≡ 0 → runNumber d n (stateIn s t) ≡ 0
       run-goes z = ap (runNumber d n) (sym (whole-handed z)) ∙ sym number-is ∙ z

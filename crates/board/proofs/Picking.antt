@@ -9,11 +9,11 @@ use lib.ListN.{length, getD, set, take, length-take}
 use lib.Seq.{take-all}
 use lib.Dec.{ltb, leb, eqb}
 use borrow.Author.Tests.{lt-ltb, le-ltb, ltb-false, le-leb, lt-leb, eq-eqb, ne-eqb, eqb-true}
-use Rattle.meaning.specs.declared.Drive.{Drive}
+use Rattle.meaning.specs.Drives.{Drives}
 use Rattle.meaning.specs.declared.Record.{Record}
 use Rattle.meaning.specs.Each.{someOf}
-use Rattle.meaning.specs.Store.{Store, lent}
-use Rattle.meaning.specs.State.{State, mostCommands, stateOf}
+use Rattle.meaning.specs.Store.{Store, memory}
+use Rattle.meaning.specs.State.{State, mostCommands, stateIn}
 use Rattle.meaning.specs.Sizes.{storeWrong, sizesWrong}
 use Rattle.meaning.specs.Command.{finished, noRecord}
 use Rattle.meaning.specs.Step.{step}
@@ -25,7 +25,8 @@ use Rattle.command.specs.Data.{badIn}
 use Rattle.command.proofs.Data.{bad-in}
 use Rattle.board.specs.declared.pick.Sight.{Sight}
 use Rattle.board.specs.declared.pick.PickedTaken.{PickedTaken}
-use Rattle.board.specs.Changes.{withTaken, handed}
+use Rattle.meaning.specs.Step.{withTaken}
+use Rattle.board.specs.Changes.{handed}
 use Rattle.board.specs.Sight.{placeSeen, blocking, sightOf, sightNumber, refusedPick, PickSees, withPicked}
 use Rattle.board.proofs.Searching.{none-here}
 use Rattle.board.proofs.Taken.{with-next}
@@ -50,7 +51,7 @@ module _ (t : List Record) (n p : ℕ) where
     unfolding placeNumber
     may-go f w = pass (leb n p) _ _ (lt-leb n p in-use) ∙ pass (finished (getD t p noRecord)) _ _ f ∙ pass (waits t p) _ _ w
 
-module _ (d : Drive) (n p : ℕ) (s : State) where
+module _ (d : Drives) (n p : ℕ) (s : State) where
   pub sizes-first : sizesWrong d s ≡ true → pickNumber d n p s ≡ 1
   unfolding pickNumber
   sizes-first e = stop _ _ _ e
@@ -60,17 +61,17 @@ module _ (d : Drive) (n p : ℕ) (s : State) where
   spoiled-next e f = pass _ _ _ e ∙ stop _ _ _ f
 
 -- over 32 commands spoil a table, and otherwise a bad record in use does
-pub over-most : (d : Drive) (n : ℕ) (s : State) → mostCommands < n → spoiled d n s ≡ true
+pub over-most : (d : Drives) (n : ℕ) (s : State) → mostCommands < n → spoiled d n s ≡ true
 unfolding spoiled
 over-most d n s h = or-first (ltb mostCommands n) _ (lt-ltb mostCommands n h)
 
-pub by-records : (d : Drive) (n : ℕ) (s : State) → n ≤ mostCommands → spoiled d n s ≡ someOf (badRecord d (s .store)) (take n (s .table))
+pub by-records : (d : Drives) (n : ℕ) (s : State) → n ≤ mostCommands → spoiled d n s ≡ someOf (badRecord d (s .store)) (take n (s .table))
 unfolding spoiled
 by-records d n s h = or-second (ltb mostCommands n) _ (le-ltb mostCommands n h)
 
 -- ---- what is handed over
 
-module _ (d : Drive) (many : ℕ) (s : State) (full : length (s .table) ≡ mostCommands) where
+module _ (d : Drives) (many : ℕ) (s : State) (full : length (s .table) ≡ mostCommands) where
   short-handed : ltb (length (take many (s .table))) mostCommands ≡ ltb many mostCommands
   short-handed = go (means-lt many mostCommands)
     where
@@ -99,65 +100,65 @@ seen-small p q e = subst (_< mostCommands) (sym e) (go (means-lt p mostCommands)
     go (holds h) = h
     go (fails h) = omega arith
 
-module _ (d : Drive) (n p : ℕ) (m i : List ℕ) (t : List Record) (long : mostCommands ≤ length t) where
+module _ (d : Drives) (n p : ℕ) (s : Store) (t : List Record) (long : mostCommands ≤ length t) where
   abbrev whole : State
-  whole = stateOf m i t
+  whole = stateIn s t
 
   abbrev here : Record
   here = getD t (placeSeen p) noRecord
 
   abbrev seen : Sight
-  seen = sightOf (length m) d (min n mostCommands) (placeSeen p) t
+  seen = sightOf (length (s memory)) d (min n mostCommands) (placeSeen p) t
 
   -- where sizes are right, what was tested of the records is what number 9 asks
-  bad-is : storeWrong d (lent m i) ≡ false → (k : ℕ) → someOf (badIn (length m) d) (take k t) ≡ someOf (badRecord d (lent m i)) (take k t)
-  bad-is right k = sym (λ j. someOf (λ r. bad-in d (lent m i) right r j) (take k t))
+  bad-is : storeWrong d s ≡ false → (k : ℕ) → someOf (badIn (length (s memory)) d) (take k t) ≡ someOf (badRecord d s) (take k t)
+  bad-is right k = sym (λ j. someOf (λ r. bad-in d s right r j) (take k t))
 
   -- a place that is in use: the rows after 8, of the record there and of the commands before it
   abbrev last-rows : ℕ → ℕ → ℕ
   last-rows q k =
-      cond (finished (getD t q noRecord)) 7 (cond (someOf (blocking (getD t q noRecord)) (take k t)) 6 (cond (badRecord d (lent m i) (getD t q noRecord)) 9 0))
+      cond (finished (getD t q noRecord)) 7 (cond (someOf (blocking (getD t q noRecord)) (take k t)) 6 (cond (badRecord d s (getD t q noRecord)) 9 0))
 
-  in-place : p < n → n ≤ mostCommands → someOf (badRecord d (lent m i)) (take n t) ≡ false
+  in-place : p < n → n ≤ mostCommands → someOf (badRecord d s) (take n t) ≡ false
       → last-rows (placeSeen p) (min (min n mostCommands) (placeSeen p)) ≡ cond (finished (getD t p noRecord)) 7 (cond (waits t p) 6 0)
   unfolding waits
   in-place h few sound =
       let own : placeSeen p ≡ p = stop (ltb p mostCommands) p 0 (lt-ltb p mostCommands (omega arith)) in
       let before : min (min n mostCommands) (placeSeen p) ≡ p = omega (arith, own) in
-      let good = none-here noRecord (badRecord d (lent m i)) t p n h (omega arith) sound in
+      let good = none-here noRecord (badRecord d s) t p n h (omega arith) sound in
       ap₂ last-rows own before
-      ∙ ap (λ (k : ℕ). cond (finished (getD t p noRecord)) 7 (cond (waits t p) 6 k)) (pass (badRecord d (lent m i) (getD t p noRecord)) 9 0 good)
+      ∙ ap (λ (k : ℕ). cond (finished (getD t p noRecord)) 7 (cond (waits t p) 6 k)) (pass (badRecord d s (getD t p noRecord)) 9 0 good)
 
   abbrev after-sizes : ℕ
-  after-sizes = cond (ltb mostCommands n) 9 (cond (seen .bad) 9 (cond (leb n p) 8 (cond (finished here) 7 (cond (seen .blocked) 6 (cond (badRecord d (lent m i) here) 9 0)))))
+  after-sizes = cond (ltb mostCommands n) 9 (cond (seen .bad) 9 (cond (leb n p) 8 (cond (finished here) 7 (cond (seen .blocked) 6 (cond (badRecord d s here) 9 0)))))
 
   abbrev Rest : ℕ → Type 0
   Rest k = k ≡ cond (spoiled d n whole) 9 (placeNumber t n p)
 
-  placed : n ≤ mostCommands → (b : Bool) → someOf (badRecord d (lent m i)) (take n t) ≡ b
+  placed : n ≤ mostCommands → (b : Bool) → someOf (badRecord d s) (take n t) ≡ b
       → {c : Bool} → Means (n ≤ p) c → Rest (cond b 9 (cond c 8 (last-rows (placeSeen p) (min (min n mostCommands) (placeSeen p)))))
   unfolding placeNumber
   placed few true e c = sym (stop _ _ _ (by-records d n whole few ∙ e))
   placed few false e (holds h) = sym (pass _ _ _ (by-records d n whole few ∙ e) ∙ no-place t n p h)
   placed few false e (fails h) = in-place (omega arith) few e ∙ sym (pass _ _ _ (by-records d n whole few ∙ e) ∙ pass (leb n p) _ _ (lt-leb n p (omega arith)))
 
-  rest-is : storeWrong d (lent m i) ≡ false → {b : Bool} → Means (mostCommands < n) b → Rest after-sizes
+  rest-is : storeWrong d s ≡ false → {b : Bool} → Means (mostCommands < n) b → Rest after-sizes
   unfolding sightOf
   rest-is right (holds h) = stop _ _ _ (lt-ltb mostCommands n h) ∙ sym (stop _ _ _ (over-most d n whole h))
   rest-is right (fails h) =
       let few : min n mostCommands ≡ n = omega arith in
-      let bad : seen .bad ≡ someOf (badRecord d (lent m i)) (take n t) = ap (λ (k : ℕ). someOf (badIn (length m) d) (take k t)) few ∙ bad-is right n in
+      let bad : seen .bad ≡ someOf (badRecord d s) (take n t) = ap (λ (k : ℕ). someOf (badIn (length (s memory)) d) (take k t)) few ∙ bad-is right n in
       pass _ _ _ (le-ltb mostCommands n (omega arith))
       ∙ ap (λ (b : Bool). cond b 9 (cond (leb n p) 8 (last-rows (placeSeen p) (min (min n mostCommands) (placeSeen p))))) bad
-      ∙ placed (omega arith) (someOf (badRecord d (lent m i)) (take n t)) refl (means-le n p)
+      ∙ placed (omega arith) (someOf (badRecord d s) (take n t)) refl (means-le n p)
 
-  pub same-number : sightNumber d n p here seen (lent m i) ≡ pickNumber d n p whole
+  pub same-number : sightNumber d n p here seen s ≡ pickNumber d n p whole
   unfolding sightNumber pickNumber
-  same-number = go (storeWrong d (lent m i)) refl ∙ ap (λ (b : Bool). cond b 1 (cond (spoiled d n whole) 9 (placeNumber t n p))) (sym (full-table d whole long))
+  same-number = go (storeWrong d s) refl ∙ ap (λ (b : Bool). cond b 1 (cond (spoiled d n whole) 9 (placeNumber t n p))) (sym (full-table d whole long))
     where
-      go : (b : Bool) → storeWrong d (lent m i) ≡ b → cond (storeWrong d (lent m i)) 1 after-sizes ≡ cond (storeWrong d (lent m i)) 1 (cond (spoiled d n whole) 9 (placeNumber t n p))
+      go : (b : Bool) → storeWrong d s ≡ b → cond (storeWrong d s) 1 after-sizes ≡ cond (storeWrong d s) 1 (cond (spoiled d n whole) 9 (placeNumber t n p))
       go true e = stop _ _ _ e ∙ sym (stop _ _ _ e)
-      go false e = ap (λ (k : ℕ). cond (storeWrong d (lent m i)) 1 k) (rest-is e (means-lt mostCommands n))
+      go false e = ap (λ (k : ℕ). cond (storeWrong d s) 1 k) (rest-is e (means-lt mostCommands n))
 
   -- an accepted pick is at a place in use
   pub accepted-place : pickNumber d n p whole ≡ 0 → (placeSeen p ≡ p) × (p < length t)
@@ -168,7 +169,7 @@ module _ (d : Drive) (n p : ℕ) (m i : List ℕ) (t : List Record) (long : most
       (stop (ltb p mostCommands) p 0 (lt-ltb p mostCommands (omega (arith, few, h .inUse))), omega (arith, few, h .inUse))
 
   -- so what it answers and changes is the whole of the pick
-  pub seen-gives : (a : PickedTaken) (u : Store) → PickSees d n p here seen (lent m i) a u
+  pub seen-gives : (a : PickedTaken) (u : Store) → PickSees d n p here seen s a u
       → PickGives d n p whole (a .number) (record { table = withPicked a p t; store = u })
   unfolding PickGives PickSees picked stepAt
   seen-gives a u g = (ap (λ (x : PickedTaken). x .number) (g .0) ∙ same-number, go (eqb (pickNumber d n p whole) 0) refl)
@@ -182,7 +183,7 @@ module _ (d : Drive) (n p : ℕ) (m i : List ℕ) (t : List Record) (long : most
           let on = ap (λ (k : ℕ). eqb k 0) same-number ∙ e in
           let taken : a .taken ≡ getD t p noRecord .taken + 1 = ap (λ (x : PickedTaken). x .taken) (g .0) ∙ stop _ _ _ on ∙ ap (λ (q : ℕ). getD t q noRecord .taken + 1) at in
           let table-is = stop _ _ _ (number ∙ e) ∙ ap (λ (k : ℕ). set t p (withTaken k (getD t p noRecord))) taken ∙ ap (set t p) (with-next (getD t p noRecord)) in
-          let store-is = g .1 ∙ stop _ _ _ on ∙ ap (λ (q : ℕ). step d (getD t q noRecord) (lent m i)) at in
+          let store-is = g .1 ∙ stop _ _ _ on ∙ ap (λ (q : ℕ). step d (getD t q noRecord) s) at in
           (λ j. record { table = table-is j; store = store-is j }) ∙ sym (stop _ _ _ e)
       go false e =
           let table-is = pass _ _ _ (number ∙ e) in
@@ -190,10 +191,10 @@ module _ (d : Drive) (n p : ℕ) (m i : List ℕ) (t : List Record) (long : most
           (λ j. record { table = table-is j; store = store-is j }) ∙ sym (pass _ _ _ e)
 
   -- the same as the code has it: `at` is the place looked at, `used` are the records in use, and x is what is seen
-  module _ (at used : ℕ) (x : Sight) (ea : at ≡ placeSeen p) (eu : used ≡ min n mostCommands) (ex : x ≡ sightOf (length m) d used at t)
-      (a : PickedTaken) (u : Store) (g : PickSees d n p (getD t at noRecord) x (lent m i) a u) where
-    sees : PickSees d n p here seen (lent m i) a u
-    sees = subst₂ (λ (q : ℕ) (y : Sight). PickSees d n p (getD t q noRecord) y (lent m i) a u) ea (ex ∙ ap₂ (λ (k q : ℕ). sightOf (length m) d k q t) eu ea) g
+  module _ (at used : ℕ) (x : Sight) (ea : at ≡ placeSeen p) (eu : used ≡ min n mostCommands) (ex : x ≡ sightOf (length (s memory)) d used at t)
+      (a : PickedTaken) (u : Store) (g : PickSees d n p (getD t at noRecord) x s a u) where
+    sees : PickSees d n p here seen s a u
+    sees = subst₂ (λ (q : ℕ) (y : Sight). PickSees d n p (getD t q noRecord) y s a u) ea (ex ∙ ap₂ (λ (k q : ℕ). sightOf (length (s memory)) d k q t) eu ea) g
 
     pub whole-pick : PickGives d n p whole (a .number) (record { table = withPicked a p t; store = u })
     whole-pick = seen-gives a u sees
@@ -213,7 +214,7 @@ module _ (d : Drive) (n p : ℕ) (m i : List ℕ) (t : List Record) (long : most
 
 -- ---- what a pick answers and changes by what it sees
 
-module _ (d : Drive) (n p : ℕ) (r : Record) (seen : Sight) (s : Store) where
+module _ (d : Drives) (n p : ℕ) (r : Record) (seen : Sight) (s : Store) where
   -- each number, once the tests before it are passed
   abbrev number : ℕ
   number = sightNumber d n p r seen s

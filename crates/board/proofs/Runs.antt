@@ -11,7 +11,7 @@ use lib.ListN.{length, take}
 use lib.Seq.{take-all}
 use lib.Dec.{eqb}
 use borrow.Author.Tests.{eq-eqb, ne-eqb}
-use Rattle.meaning.specs.declared.Drive.{Drive}
+use Rattle.meaning.specs.Drives.{Drives}
 use Rattle.meaning.specs.declared.Record.{Record}
 use Rattle.meaning.specs.declared.Ran.{Ran}
 use Rattle.meaning.specs.Store.{Store}
@@ -31,7 +31,7 @@ answer steps refused finished = record { steps = steps; refused = refused; numbe
 abbrev both : Ran → List ℕ → RanTaken
 both ran taken = record { ran = ran; taken = taken }
 
-module _ (d : Drive) (n : ℕ) (go : State → Tally) (s : State) where
+module _ (d : Drives) (n : ℕ) (go : State → Tally) (s : State) where
   pub reply-refused : eqb (runNumber d n s) 0 ≡ false → runReply d n go s ≡ refusedRun (runNumber d n s)
   unfolding runReply ranTo
   reply-refused off =
@@ -52,7 +52,7 @@ module _ (d : Drive) (n : ℕ) (go : State → Tally) (s : State) where
       let f = stop (eqb (runNumber d n s) 0) (allFinished (ranTo d n go s .state .table) n) false on ∙ ap (λ (x : Tally). allFinished (x .state .table) n) y in
       λ j. record { steps = y j .steps; refused = y j .refused; number = e j; finished = f j }
 
-module _ (d : Drive) (n : ℕ) (go : State → Tally) (many : ℕ) (s : State) where
+module _ (d : Drives) (n : ℕ) (go : State → Tally) (many : ℕ) (s : State) where
   -- what is taken where x is handed over of s
   abbrev taking : State → RanTaken
   taking x = both (runReply d n go x) (takenOf (cond (eqb (runNumber d n x) 0) (ranTo d n go x .state .table) (s .table)))

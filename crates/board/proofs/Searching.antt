@@ -13,7 +13,7 @@ use Rattle.meaning.specs.declared.Record.{Record}
 use Rattle.meaning.specs.Each.{someOf}
 use Rattle.meaning.specs.Command.{stepsOf, finished, noRecord}
 use Rattle.meaning.specs.Touch.{touched, conflict}
-use Rattle.meaning.specs.Step.{stepped}
+use Rattle.meaning.specs.Step.{withTaken, stepped}
 use Rattle.meaning.specs.Pick.{waits}
 use Rattle.meaning.proofs.Rows.{or-none, or-false, and-first, and-second}
 use Rattle.meaning.proofs.Tests.{and-no}
@@ -65,12 +65,12 @@ by-conflict r e b f c = and-second (not (finished e)) (conflict e r) (ap not f) 
 
 -- what r touches does not change with its steps
 stepped-waits : (r : Record) → blocking (stepped r) ≡ blocking r
-unfolding conflict touched stepped
+unfolding conflict touched stepped withTaken
 stepped-waits r = refl
 
 -- nor what e touches, and once finished it is finished
 stepped-blocks : (r e : Record) → blocking r e ≡ false → blocking r (stepped e) ≡ false
-unfolding conflict touched stepped finished stepsOf
+unfolding conflict touched stepped withTaken finished stepsOf
 stepped-blocks r e h = go (finished e) refl h
   where
     go : (b : Bool) → finished e ≡ b → (not b && conflict e r) ≡ false → (not (finished (stepped e)) && conflict e r) ≡ false

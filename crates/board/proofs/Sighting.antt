@@ -10,7 +10,7 @@ use lib.ListN.{length, getD, take}
 use lib.Seq.{take-suc}
 use lib.Dec.{ltb}
 use borrow.Author.Tests.{lt-ltb, le-ltb}
-use Rattle.meaning.specs.declared.Drive.{Drive}
+use Rattle.meaning.specs.Drives.{Drives}
 use Rattle.meaning.specs.declared.Record.{Record}
 use Rattle.meaning.specs.Each.{someOf}
 use Rattle.meaning.specs.Command.{finished, noRecord}
@@ -25,7 +25,7 @@ use Rattle.command.proofs.Touching.{no-conflict}
 use Rattle.board.specs.declared.pick.Sight.{Sight}
 use Rattle.board.specs.Sight.{blocking, sightOf}
 
-module _ (size : ℕ) (d : Drive) (k p : ℕ) (t : List Record) (here : k < length t) where
+module _ (size : ℕ) (d : Drives) (k p : ℕ) (t : List Record) (here : k < length t) where
   abbrev wanted : Record
   wanted = getD t p noRecord
 
@@ -111,7 +111,7 @@ module _ (size : ℕ) (d : Drive) (k p : ℕ) (t : List Record) (here : k < leng
       }
 
 -- nothing is seen at first
-pub sees-none : (size : ℕ) (d : Drive) (p : ℕ) (t : List Record) → record { bad = false; blocked = false } ≡ sightOf size d 0 p t
+pub sees-none : (size : ℕ) (d : Drives) (p : ℕ) (t : List Record) → record { bad = false; blocked = false } ≡ sightOf size d 0 p t
 unfolding sightOf
 sees-none size d p t =
     let e : 0 ≡ min 0 p = omega arith in

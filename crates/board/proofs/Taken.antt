@@ -9,9 +9,9 @@ use lib.ListN.{length, getD, set, take}
 use lib.Seq.{take-all}
 use Rattle.meaning.specs.declared.Record.{Record}
 use Rattle.meaning.specs.Command.{noRecord}
-use Rattle.meaning.specs.Step.{stepped}
+use Rattle.meaning.specs.Step.{withTaken, stepped}
 use Rattle.meaning.specs.Run.{advanced}
-use Rattle.board.specs.Changes.{withTaken, tableWith, takenOf}
+use Rattle.board.specs.Changes.{tableWith, takenOf}
 
 -- ---- one record
 

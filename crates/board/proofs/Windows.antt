@@ -11,14 +11,14 @@ use lib.ListN.{length, getD, take, drop}
 use lib.Seq.{sets}
 use Rattle.meaning.specs.declared.Link.{Link}
 use Rattle.meaning.specs.declared.Record.{Record}
-use Rattle.meaning.specs.Store.{Space, memory, same, Store, theDisk, lent, Area, area, get, put, Move, copy, move, moves}
+use Rattle.meaning.specs.Store.{Space, memory, disk, same, Store, Area, area, get, put, Move, copy, move, moves}
 use Rattle.meaning.specs.Sectors.{sectorBytes}
 use Rattle.meaning.specs.Ranges.{Range, bytes}
 use Rattle.meaning.specs.Links.{noLink, rangeOf}
 use Rattle.meaning.specs.Pieces.{Piece, before, pieceOf, piecesOf}
 use Rattle.meaning.specs.Command.{reads, writes, transfers}
 use Rattle.meaning.specs.Touch.{dataBytes}
-use Rattle.meaning.specs.Step.{piecesAt, inMemory, inSector, sectorMoveBy, sectorMove, stepped}
+use Rattle.meaning.specs.Step.{piecesAt, inMemory, inSector, sectorMoveBy, sectorMove, withTaken, stepped}
 use Rattle.meaning.proofs.All.{All}
 use Rattle.meaning.proofs.Rows.{pass}
 use Rattle.meaning.proofs.Means.{Means, holds, fails, means-eq}
@@ -26,8 +26,9 @@ use Rattle.meaning.proofs.Spaces.{AsLong, length-moves}
 use Rattle.meaning.proofs.Conditions.{Inside}
 use Rattle.meaning.proofs.Links.{Going, going-start, going-on, next-link, no-more-links}
 use Rattle.meaning.proofs.Pieces.{piece-asked}
+use Rattle.board.specs.OneUnit.{onUnit}
 use Rattle.board.specs.Moved.{sectorsMoved, onDisk, pieceMove, windowMoved}
-use Rattle.board.proofs.Edge.{put-memory, put-disk}
+use Rattle.board.proofs.Edge.{unit-disk, put-memory, put-disk}
 use Rattle.board.proofs.Copying.{copied-behind}
 
 -- ---- two copies
@@ -84,22 +85,22 @@ range-behind a s t many n h k l = omega arith
 behind-many : (s t u : ℕ) → s ≤ t → t ≤ u → (t - s) + (u - t) ≡ u - s
 behind-many s t u h k = omega arith
 
-module _ (rd : Bool) (f : ℕ) where
+module _ (u : ℕ) (rd : Bool) (f : ℕ) where
   -- an empty one
-  pub no-piece : (p : Piece) (s : Store) → p .many ≡ 0 → move (pieceMove rd f p) s ≡ s
+  pub no-piece : (p : Piece) (s : Store) → p .many ≡ 0 → move (pieceMove u rd f p) s ≡ s
   no-piece p s e = go rd
     where
-      go : (b : Bool) → move (pieceMove b f p) s ≡ s
-      go true = copy-none (area theDisk (f + p .at) (p .many)) memory (p .from) s e
-      go false = copy-none (inMemory p) theDisk (f + p .at) s e
+      go : (b : Bool) → move (pieceMove u b f p) s ≡ s
+      go true = copy-none (area (disk u) (f + p .at) (p .many)) memory (p .from) s e
+      go false = copy-none (inMemory p) (disk u) (f + p .at) s e
 
   -- room for the piece of a range in the space that it is copied from
   Room : Range → ℕ → Store → Type 0
-  Room x hi s = (f + hi ≤ length (s theDisk)) × Inside (length (s memory)) x
+  Room x hi s = (f + hi ≤ length (s (disk u))) × Inside (length (s memory)) x
 
   -- its pieces up to mid and from there on
   split-piece : (x : Range) (b lo mid hi : ℕ) (s : Store) → b ≤ mid → lo ≤ mid → mid ≤ hi → Room x hi s
-      → move (pieceMove rd f (pieceOf x b mid hi)) (move (pieceMove rd f (pieceOf x b lo mid)) s) ≡ move (pieceMove rd f (pieceOf x b lo hi)) s
+      → move (pieceMove u rd f (pieceOf x b mid hi)) (move (pieceMove u rd f (pieceOf x b lo mid)) s) ≡ move (pieceMove u rd f (pieceOf x b lo hi)) s
   unfolding Room
   split-piece x b lo mid hi s h l m room =
       let p = pieceOf x b lo mid in
@@ -111,38 +112,38 @@ module _ (rd : Bool) (f : ℕ) where
       let from : q .from ≡ p .from + p .many = behind-from (x .from) s₁ s₂ up in
       let many : p .many + q .many ≡ pieceOf x b lo hi .many = behind-many s₁ s₂ s₃ up (before-later x b mid hi m) in
       let disk-at : f + q .at ≡ f + p .at + p .many = at-behind f b s₁ s₂ up in
-      let on-disk : f + p .at + p .many ≤ length (s theDisk) = fits-behind f b s₁ s₂ mid hi (length (s theDisk)) up (before-within x b mid h) m (room .0) in
+      let on-disk : f + p .at + p .many ≤ length (s (disk u)) = fits-behind f b s₁ s₂ mid hi (length (s (disk u))) up (before-within x b mid h) m (room .0) in
       let in-range : p .from + p .many ≤ length (s memory) = range-behind (x .from) s₁ s₂ (x .many) (length (s memory)) up (before-most x b mid) (room .1) in
       go p q many from disk-at on-disk in-range rd
     where
       go : (p q : Piece) → p .many + q .many ≡ pieceOf x b lo hi .many → q .from ≡ p .from + p .many → f + q .at ≡ f + p .at + p .many
-          → f + p .at + p .many ≤ length (s theDisk) → p .from + p .many ≤ length (s memory) → (r : Bool)
-          → move (pieceMove r f q) (move (pieceMove r f p) s) ≡ move (pieceMove r f (record { at = p .at; from = p .from; many = pieceOf x b lo hi .many })) s
+          → f + p .at + p .many ≤ length (s (disk u)) → p .from + p .many ≤ length (s memory) → (r : Bool)
+          → move (pieceMove u r f q) (move (pieceMove u r f p) s) ≡ move (pieceMove u r f (record { at = p .at; from = p .from; many = pieceOf x b lo hi .many })) s
       go p q many from at fits fits′ true =
-          ap₂ (λ (i a : ℕ). move (copy (area theDisk i (q .many)) memory a) (move (pieceMove true f p) s)) at from
-          ∙ copy-behind theDisk memory (f + p .at) (p .from) (p .many) (q .many) s refl fits
-          ∙ ap (λ (k : ℕ). move (copy (area theDisk (f + p .at) k) memory (p .from)) s) many
+          ap₂ (λ (i a : ℕ). move (copy (area (disk u) i (q .many)) memory a) (move (pieceMove u true f p) s)) at from
+          ∙ copy-behind (disk u) memory (f + p .at) (p .from) (p .many) (q .many) s refl fits
+          ∙ ap (λ (k : ℕ). move (copy (area (disk u) (f + p .at) k) memory (p .from)) s) many
       go p q many from at fits fits′ false =
-          ap₂ (λ (i a : ℕ). move (copy (area memory i (q .many)) theDisk a) (move (pieceMove false f p) s)) from at
-          ∙ copy-behind memory theDisk (p .from) (f + p .at) (p .many) (q .many) s refl fits′
-          ∙ ap (λ (k : ℕ). move (copy (area memory (p .from) k) theDisk (f + p .at)) s) many
+          ap₂ (λ (i a : ℕ). move (copy (area memory i (q .many)) (disk u) a) (move (pieceMove u false f p) s)) from at
+          ∙ copy-behind memory (disk u) (p .from) (f + p .at) (p .many) (q .many) s refl fits′
+          ∙ ap (λ (k : ℕ). move (copy (area memory (p .from) k) (disk u) (f + p .at)) s) many
 
   -- ---- the pieces of some ranges
 
   -- bytes that come before the first of the data: nothing is moved
-  window-none : (rs : List Range) (b lo hi : ℕ) (s : Store) → hi ≤ b → windowMoved rd f rs b lo hi s ≡ s
+  window-none : (rs : List Range) (b lo hi : ℕ) (s : Store) → hi ≤ b → windowMoved u rd f rs b lo hi s ≡ s
   unfolding windowMoved moves
   window-none [] b lo hi s h = refl
   window-none (x ∷ rs) b lo hi s h =
-      ap (windowMoved rd f rs (b + x .many) lo hi) (no-piece (pieceOf x b lo hi) s (omega arith)) ∙ window-none rs (b + x .many) lo hi s (omega arith)
+      ap (windowMoved u rd f rs (b + x .many) lo hi) (no-piece (pieceOf x b lo hi) s (omega arith)) ∙ window-none rs (b + x .many) lo hi s (omega arith)
 
   -- no bytes at all: nothing is moved
-  pub window-empty : (rs : List Range) (b lo hi : ℕ) (s : Store) → hi ≤ lo → windowMoved rd f rs b lo hi s ≡ s
+  pub window-empty : (rs : List Range) (b lo hi : ℕ) (s : Store) → hi ≤ lo → windowMoved u rd f rs b lo hi s ≡ s
   unfolding windowMoved moves
   window-empty [] b lo hi s h = refl
   window-empty (x ∷ rs) b lo hi s h =
       let e = before-later x b hi lo h in
-      ap (windowMoved rd f rs (b + x .many) lo hi) (no-piece (pieceOf x b lo hi) s (omega arith)) ∙ window-empty rs (b + x .many) lo hi s h
+      ap (windowMoved u rd f rs (b + x .many) lo hi) (no-piece (pieceOf x b lo hi) s (omega arith)) ∙ window-empty rs (b + x .many) lo hi s h
 
   -- from which byte before the first of them does not matter
   same-piece : (x : Range) (b lo mid hi : ℕ) → lo ≤ b → mid ≤ b → pieceOf x b lo hi ≡ pieceOf x b mid hi
@@ -150,12 +151,12 @@ module _ (rd : Bool) (f : ℕ) where
       let e : before x b lo ≡ before x b mid = omega arith in
       λ j. record { at = b + e j; from = x .from + e j; many = before x b hi - e j }
 
-  window-from : (rs : List Range) (b lo mid hi : ℕ) (s : Store) → lo ≤ b → mid ≤ b → windowMoved rd f rs b lo hi s ≡ windowMoved rd f rs b mid hi s
+  window-from : (rs : List Range) (b lo mid hi : ℕ) (s : Store) → lo ≤ b → mid ≤ b → windowMoved u rd f rs b lo hi s ≡ windowMoved u rd f rs b mid hi s
   unfolding windowMoved moves
   window-from [] b lo mid hi s l m = refl
   window-from (x ∷ rs) b lo mid hi s l m =
-      ap (λ (p : Piece). windowMoved rd f rs (b + x .many) lo hi (move (pieceMove rd f p) s)) (same-piece x b lo mid hi l m)
-      ∙ window-from rs (b + x .many) lo mid hi (move (pieceMove rd f (pieceOf x b mid hi)) s) (omega arith) (omega arith)
+      ap (λ (p : Piece). windowMoved u rd f rs (b + x .many) lo hi (move (pieceMove u rd f p) s)) (same-piece x b lo mid hi l m)
+      ∙ window-from rs (b + x .many) lo mid hi (move (pieceMove u rd f (pieceOf x b mid hi)) s) (omega arith) (omega arith)
 
   -- a range that ends before mid has nothing after it
   whole-piece : (x : Range) (b lo mid hi : ℕ) → b + x .many ≤ mid → mid ≤ hi → pieceOf x b lo mid ≡ pieceOf x b lo hi
@@ -163,34 +164,34 @@ module _ (rd : Bool) (f : ℕ) where
       let e : before x b mid ≡ before x b hi = omega arith in
       λ j. record { at = b + before x b lo; from = x .from + before x b lo; many = e j - before x b lo }
 
-  long-piece : (p : Piece) (s : Store) → AsLong (move (pieceMove rd f p) s) s
+  long-piece : (p : Piece) (s : Store) → AsLong (move (pieceMove u rd f p) s) s
   unfolding moves
-  long-piece p s = length-moves (pieceMove rd f p ∷ []) s
+  long-piece p s = length-moves (pieceMove u rd f p ∷ []) s
 
   -- bytes up to mid, and then those from there on
-  pub window-merge : (rs : List Range) (b lo mid hi : ℕ) (s : Store) → lo ≤ mid → mid ≤ hi → f + hi ≤ length (s theDisk) → All (Inside (length (s memory))) rs
-      → windowMoved rd f rs b mid hi (windowMoved rd f rs b lo mid s) ≡ windowMoved rd f rs b lo hi s
+  pub window-merge : (rs : List Range) (b lo mid hi : ℕ) (s : Store) → lo ≤ mid → mid ≤ hi → f + hi ≤ length (s (disk u)) → All (Inside (length (s memory))) rs
+      → windowMoved u rd f rs b mid hi (windowMoved u rd f rs b lo mid s) ≡ windowMoved u rd f rs b lo hi s
   unfolding Room windowMoved moves
   window-merge [] b lo mid hi s l m fits all = refl
   window-merge (x ∷ rs) b lo mid hi s l m fits all =
       let b′ = b + x .many in
       let first = pieceOf x b lo mid in
       let second = pieceOf x b mid hi in
-      let s₁ = move (pieceMove rd f first) s in
-      let t = windowMoved rd f rs b′ lo mid s₁ in
+      let s₁ = move (pieceMove u rd f first) s in
+      let t = windowMoved u rd f rs b′ lo mid s₁ in
       elim (decLe mid b) [
         | yes early ↦
-            ap (windowMoved rd f (x ∷ rs) b mid hi) (window-none (x ∷ rs) b lo mid s early) ∙ sym (window-from (x ∷ rs) b lo mid hi s (omega arith) early)
+            ap (windowMoved u rd f (x ∷ rs) b mid hi) (window-none (x ∷ rs) b lo mid s early) ∙ sym (window-from (x ∷ rs) b lo mid hi s (omega arith) early)
         | no late ↦
             elim (decLe b′ mid) [
               | yes whole ↦
-                  ap (windowMoved rd f rs b′ mid hi) (no-piece second t (omega arith))
-                  ∙ window-merge rs b′ lo mid hi s₁ l m (rw (long-piece first s theDisk) fits) (rw (long-piece first s memory) (all .1))
-                  ∙ ap (λ (p : Piece). windowMoved rd f rs b′ lo hi (move (pieceMove rd f p) s)) (whole-piece x b lo mid hi whole m)
+                  ap (windowMoved u rd f rs b′ mid hi) (no-piece second t (omega arith))
+                  ∙ window-merge rs b′ lo mid hi s₁ l m (rw (long-piece first s (disk u)) fits) (rw (long-piece first s memory) (all .1))
+                  ∙ ap (λ (p : Piece). windowMoved u rd f rs b′ lo hi (move (pieceMove u rd f p) s)) (whole-piece x b lo mid hi whole m)
               | no part ↦
-                  ap (λ (u : Store). windowMoved rd f rs b′ mid hi (move (pieceMove rd f second) u)) (window-none rs b′ lo mid s₁ (omega arith))
-                  ∙ ap (windowMoved rd f rs b′ mid hi) (split-piece x b lo mid hi s (omega arith) l m (fits, all .0))
-                  ∙ sym (window-from rs b′ lo mid hi (move (pieceMove rd f (pieceOf x b lo hi)) s) (omega arith) (omega arith))
+                  ap (λ (z : Store). windowMoved u rd f rs b′ mid hi (move (pieceMove u rd f second) z)) (window-none rs b′ lo mid s₁ (omega arith))
+                  ∙ ap (windowMoved u rd f rs b′ mid hi) (split-piece x b lo mid hi s (omega arith) l m (fits, all .0))
+                  ∙ sym (window-from rs b′ lo mid hi (move (pieceMove u rd f (pieceOf x b lo hi)) s) (omega arith) (omega arith))
             ]
       ]
 
@@ -216,42 +217,42 @@ module _ (r : Record) (k : ℕ) where
   fetch p = copy (inSector r k p) memory (inMemory p .from)
 
   abbrev keep : Piece → Move
-  keep p = copy (inMemory p) theDisk (inSector r k p .from)
+  keep p = copy (inMemory p) (disk (r .unit)) (inSector r k p .from)
 
   -- where the part of the sector is, counted from the first sector
   part-at : (p : Piece) → Asked (sectorBytes * k) p → 1 ≤ p .many → sectorBytes * (r .sector + k) + (p .at - sectorBytes * k) ≡ onDisk r + p .at
   part-at p a h = let l = a h in omega arith
 
-  fetched : (p : Piece) → Asked (sectorBytes * k) p → (s : Store) → move (fetch p) s ≡ move (pieceMove true (onDisk r) p) s
+  fetched : (p : Piece) → Asked (sectorBytes * k) p → (s : Store) → move (fetch p) s ≡ move (pieceMove (r .unit) true (onDisk r) p) s
   fetched p a s = go (means-eq (p .many) 0)
     where
-      go : {b : Bool} → Means (p .many ≡ 0) b → move (fetch p) s ≡ move (pieceMove true (onDisk r) p) s
-      go (holds e) = copy-none (inSector r k p) memory (p .from) s e ∙ sym (no-piece true (onDisk r) p s e)
-      go (fails n) = ap (λ (i : ℕ). move (copy (area theDisk i (p .many)) memory (p .from)) s) (part-at p a (omega arith))
+      go : {b : Bool} → Means (p .many ≡ 0) b → move (fetch p) s ≡ move (pieceMove (r .unit) true (onDisk r) p) s
+      go (holds e) = copy-none (inSector r k p) memory (p .from) s e ∙ sym (no-piece (r .unit) true (onDisk r) p s e)
+      go (fails n) = ap (λ (i : ℕ). move (copy (area (disk (r .unit)) i (p .many)) memory (p .from)) s) (part-at p a (omega arith))
 
-  kept : (p : Piece) → Asked (sectorBytes * k) p → (s : Store) → move (keep p) s ≡ move (pieceMove false (onDisk r) p) s
+  kept : (p : Piece) → Asked (sectorBytes * k) p → (s : Store) → move (keep p) s ≡ move (pieceMove (r .unit) false (onDisk r) p) s
   kept p a s = go (means-eq (p .many) 0)
     where
-      go : {b : Bool} → Means (p .many ≡ 0) b → move (keep p) s ≡ move (pieceMove false (onDisk r) p) s
-      go (holds e) = copy-none (inMemory p) theDisk (inSector r k p .from) s e ∙ sym (no-piece false (onDisk r) p s e)
-      go (fails n) = ap (λ (i : ℕ). move (copy (inMemory p) theDisk i) s) (part-at p a (omega arith))
+      go : {b : Bool} → Means (p .many ≡ 0) b → move (keep p) s ≡ move (pieceMove (r .unit) false (onDisk r) p) s
+      go (holds e) = copy-none (inMemory p) (disk (r .unit)) (inSector r k p .from) s e ∙ sym (no-piece (r .unit) false (onDisk r) p s e)
+      go (fails n) = ap (λ (i : ℕ). move (copy (inMemory p) (disk (r .unit)) i) s) (part-at p a (omega arith))
 
   one-window : (s : Store) → transfers r ≡ true
-      → moves (sectorMove r k) s ≡ windowMoved (reads r) (onDisk r) (dataBytes r) 0 (sectorBytes * k) (sectorBytes * k + sectorBytes) s
+      → moves (sectorMove r k) s ≡ windowMoved (r .unit) (reads r) (onDisk r) (dataBytes r) 0 (sectorBytes * k) (sectorBytes * k + sectorBytes) s
   unfolding sectorMove windowMoved
   one-window s t = go (reads r) (writes r) t
     where
-      go : (rd wr : Bool) → (rd || wr) ≡ true → moves (sectorMoveBy rd wr r k) s ≡ moves (map (pieceMove rd (onDisk r)) (piecesAt r k)) s
-      go true wr e = same-moves fetch (pieceMove true (onDisk r)) (Asked (sectorBytes * k)) fetched (piecesAt r k) (all-asked (dataBytes r) 0 _ _) s
-      go false true e = same-moves keep (pieceMove false (onDisk r)) (Asked (sectorBytes * k)) kept (piecesAt r k) (all-asked (dataBytes r) 0 _ _) s
+      go : (rd wr : Bool) → (rd || wr) ≡ true → moves (sectorMoveBy rd wr r k) s ≡ moves (map (pieceMove (r .unit) rd (onDisk r)) (piecesAt r k)) s
+      go true wr e = same-moves fetch (pieceMove (r .unit) true (onDisk r)) (Asked (sectorBytes * k)) fetched (piecesAt r k) (all-asked (dataBytes r) 0 _ _) s
+      go false true e = same-moves keep (pieceMove (r .unit) false (onDisk r)) (Asked (sectorBytes * k)) kept (piecesAt r k) (all-asked (dataBytes r) 0 _ _) s
       go false false e = absurd (false≢true e)
 
 -- ---- the sectors of several steps
 
-pub sectors-window : (n : ℕ) (r : Record) (s : Store) → transfers r ≡ true → onDisk r + sectorBytes * (r .taken + n) ≤ length (s theDisk) → All (Inside (length (s memory))) (dataBytes r)
-    → sectorsMoved n r s ≡ windowMoved (reads r) (onDisk r) (dataBytes r) 0 (sectorBytes * r .taken) (sectorBytes * r .taken + sectorBytes * n) s
-unfolding sectorsMoved stepped
-sectors-window zero r s t fits all = sym (window-empty (reads r) (onDisk r) (dataBytes r) 0 (sectorBytes * r .taken) (sectorBytes * r .taken + 0) s (omega arith))
+pub sectors-window : (n : ℕ) (r : Record) (s : Store) → transfers r ≡ true → onDisk r + sectorBytes * (r .taken + n) ≤ length (s (disk (r .unit))) → All (Inside (length (s memory))) (dataBytes r)
+    → sectorsMoved n r s ≡ windowMoved (r .unit) (reads r) (onDisk r) (dataBytes r) 0 (sectorBytes * r .taken) (sectorBytes * r .taken + sectorBytes * n) s
+unfolding sectorsMoved stepped withTaken
+sectors-window zero r s t fits all = sym (window-empty (r .unit) (reads r) (onDisk r) (dataBytes r) 0 (sectorBytes * r .taken) (sectorBytes * r .taken + 0) s (omega arith))
 sectors-window (suc n) r s t fits all =
     let lo = sectorBytes * r .taken in
     let mid = sectorBytes * r .taken + sectorBytes in
@@ -259,49 +260,50 @@ sectors-window (suc n) r s t fits all =
     let long = length-moves (sectorMove r (r .taken)) s in
     let from : sectorBytes * (r .taken + 1) ≡ mid = omega arith in
     let to : sectorBytes * (r .taken + 1) + sectorBytes * n ≡ lo + sectorBytes * suc n = omega arith in
-    sectors-window n (stepped r) s₁ t (rw (long theDisk) (omega arith)) (rw (long memory) all)
-    ∙ ap₂ (λ (i j : ℕ). windowMoved (reads r) (onDisk r) (dataBytes r) 0 i j s₁) from to
-    ∙ ap (windowMoved (reads r) (onDisk r) (dataBytes r) 0 mid (lo + sectorBytes * suc n)) (one-window r (r .taken) s t)
-    ∙ window-merge (reads r) (onDisk r) (dataBytes r) 0 lo mid (lo + sectorBytes * suc n) s (omega arith) (omega arith) (omega arith) all
+    sectors-window n (stepped r) s₁ t (rw (long (disk (r .unit))) (omega arith)) (rw (long memory) all)
+    ∙ ap₂ (λ (i j : ℕ). windowMoved (r .unit) (reads r) (onDisk r) (dataBytes r) 0 i j s₁) from to
+    ∙ ap (windowMoved (r .unit) (reads r) (onDisk r) (dataBytes r) 0 mid (lo + sectorBytes * suc n)) (one-window r (r .taken) s t)
+    ∙ window-merge (r .unit) (reads r) (onDisk r) (dataBytes r) 0 lo mid (lo + sectorBytes * suc n) s (omega arith) (omega arith) (omega arith) all
 
 -- ---- a transfer without a list: one piece
 
-pub plain-window : (rd : Bool) (f a c lo n : ℕ) (s : Store) → lo + n ≤ c
-    → windowMoved rd f (bytes a c ∷ []) 0 lo (lo + n) s ≡ move (pieceMove rd f (record { at = lo; from = a + lo; many = n })) s
+pub plain-window : (u : ℕ) (rd : Bool) (f a c lo n : ℕ) (s : Store) → lo + n ≤ c
+    → windowMoved u rd f (bytes a c ∷ []) 0 lo (lo + n) s ≡ move (pieceMove u rd f (record { at = lo; from = a + lo; many = n })) s
 unfolding windowMoved moves
-plain-window rd f a c lo n s h =
+plain-window u rd f a c lo n s h =
     let skip : min (lo - 0) c ≡ lo = omega arith in
     let end : min (lo + n - 0) c - min (lo - 0) c ≡ n = omega arith in
     let at : 0 + min (lo - 0) c ≡ lo = omega arith in
-    λ j. move (pieceMove rd f (record { at = at j; from = a + skip j; many = end j })) s
+    λ j. move (pieceMove u rd f (record { at = at j; from = a + skip j; many = end j })) s
 
 -- ---- a piece as the code copies it
 
-module _ (f b lo hi : ℕ) (x : Link) (m i : List ℕ) (skip end : ℕ) (is-skip : skip ≡ before (rangeOf x) b lo) (is-end : end ≡ before (rangeOf x) b hi) where
+module _ (f b lo hi : ℕ) (x : Link) (m i : List ℕ) (skip end : ℕ) (is-skip : skip ≡ before (rangeOf x) b lo) (is-end : end ≡ before (rangeOf x) b hi) (u : ℕ) (s : Store) where
   abbrev piece : Piece
   piece = record { at = b + skip; from = x .address + skip; many = end - skip }
 
   this-piece : piece ≡ pieceOf (rangeOf x) b lo hi
   this-piece = λ j. record { at = b + is-skip j; from = x .address + is-skip j; many = is-end j - is-skip j }
 
-  pub piece-nothing : (rd : Bool) → end ≤ skip → lent m i ≡ move (pieceMove rd f (pieceOf (rangeOf x) b lo hi)) (lent m i)
-  piece-nothing rd h = sym (ap (λ (p : Piece). move (pieceMove rd f p) (lent m i)) (sym this-piece) ∙ no-piece rd f piece (lent m i) (omega arith))
+  pub piece-nothing : (rd : Bool) → end ≤ skip → onUnit u m i s ≡ move (pieceMove u rd f (pieceOf (rangeOf x) b lo hi)) (onUnit u m i s)
+  piece-nothing rd h = sym (ap (λ (p : Piece). move (pieceMove u rd f p) (onUnit u m i s)) (sym this-piece) ∙ no-piece u rd f piece (onUnit u m i s) (omega arith))
 
   pub piece-read : (rd : Bool) → rd ≡ true → (m′ : List ℕ) → m′ ≡ sets m (x .address + skip) (take (end - skip) (drop (f + (b + skip)) i))
-      → lent m′ i ≡ move (pieceMove rd f (pieceOf (rangeOf x) b lo hi)) (lent m i)
+      → onUnit u m′ i s ≡ move (pieceMove u rd f (pieceOf (rangeOf x) b lo hi)) (onUnit u m i s)
   unfolding move get
   piece-read rd e m′ em =
-      ap (λ (l : List ℕ). lent l i) em
-      ∙ sym (put-memory m i (take (end - skip) (drop (f + (b + skip)) i)) (x .address + skip))
-      ∙ ap₂ (λ (r : Bool) (p : Piece). move (pieceMove r f p) (lent m i)) (sym e) this-piece
+      ap (λ (l : List ℕ). onUnit u l i s) em
+      ∙ sym (put-memory u m i s (take (end - skip) (drop (f + (b + skip)) i)) (x .address + skip))
+      ∙ ap (λ (l : List ℕ). put memory (x .address + skip) (take (end - skip) (drop (f + (b + skip)) l)) (onUnit u m i s)) (sym (unit-disk u m i s))
+      ∙ ap₂ (λ (r : Bool) (p : Piece). move (pieceMove u r f p) (onUnit u m i s)) (sym e) this-piece
 
   pub piece-written : (rd : Bool) → rd ≡ false → (i′ : List ℕ) → i′ ≡ sets i (f + (b + skip)) (take (end - skip) (drop (x .address + skip) m))
-      → lent m i′ ≡ move (pieceMove rd f (pieceOf (rangeOf x) b lo hi)) (lent m i)
+      → onUnit u m i′ s ≡ move (pieceMove u rd f (pieceOf (rangeOf x) b lo hi)) (onUnit u m i s)
   unfolding move get
   piece-written rd e i′ ei =
-      ap (λ (l : List ℕ). lent m l) ei
-      ∙ sym (put-disk m i (take (end - skip) (drop (x .address + skip) m)) (f + (b + skip)))
-      ∙ ap₂ (λ (r : Bool) (p : Piece). move (pieceMove r f p) (lent m i)) (sym e) this-piece
+      ap (λ (l : List ℕ). onUnit u m l s) ei
+      ∙ sym (put-disk u m i s (take (end - skip) (drop (x .address + skip) m)) (f + (b + skip)))
+      ∙ ap₂ (λ (r : Bool) (p : Piece). move (pieceMove u r f p) (onUnit u m i s)) (sym e) this-piece
 
 -- ---- a loop through the ranges of a list: what is left to move, moved from here on, is the whole
 
@@ -318,7 +320,7 @@ module _ (rd : Bool) (f lo hi : ℕ) (list : List Link) (n last : ℕ) (m₀ i�
     pub long-m : length m ≡ length m₀
     pub long-i : length i ≡ length i₀
     pub all : All inside (left-from k)
-    pub left : windowMoved rd f (map rangeOf (take n list)) 0 lo hi (lent m₀ i₀) ≡ windowMoved rd f (map rangeOf (left-from k)) b lo hi (lent m i)
+    pub left : (u : ℕ) (s : Store) → windowMoved u rd f (map rangeOf (take n list)) 0 lo hi (onUnit u m₀ i₀ s) ≡ windowMoved u rd f (map rangeOf (left-from k)) b lo hi (onUnit u m i s)
 
   pub laying-start : last ≡ min n 32 → length list ≡ 32 → All inside (take n list) → Laying m₀ i₀ 0 0
   laying-start e l h =
@@ -329,7 +331,7 @@ module _ (rd : Bool) (f lo hi : ℕ) (list : List Link) (n last : ℕ) (m₀ i�
         long-m = refl;
         long-i = refl;
         all = subst (All inside) (g .held) h;
-        left = ap (λ (xs : List Link). windowMoved rd f (map rangeOf xs) 0 lo hi (lent m₀ i₀)) (g .held);
+        left = λ u s. ap (λ (xs : List Link). windowMoved u rd f (map rangeOf xs) 0 lo hi (onUnit u m₀ i₀ s)) (g .held);
       }
 
   module _ (m i : List ℕ) (b k : ℕ) (y : Laying m i b k) where
@@ -339,7 +341,7 @@ module _ (rd : Bool) (f lo hi : ℕ) (list : List Link) (n last : ℕ) (m₀ i�
     pub laying-inside : k < last → x .address + x .length ≤ length m
     laying-inside h = let q : All inside (x ∷ left-from (k + 1)) = subst (All inside) (next-link n list last k (y .going) h) (y .all) in omega (arith, q .0, y .long-m)
 
-    pub laying-next : k < last → (m′ i′ : List ℕ) (b′ : ℕ) → lent m′ i′ ≡ move (pieceMove rd f (pieceOf (rangeOf x) b lo hi)) (lent m i)
+    pub laying-next : k < last → (m′ i′ : List ℕ) (b′ : ℕ) → ((u : ℕ) (s : Store) → onUnit u m′ i′ s ≡ move (pieceMove u rd f (pieceOf (rangeOf x) b lo hi)) (onUnit u m i s))
         → length m′ ≡ length m → length i′ ≡ length i → b′ ≡ b + x .length → x .length ≤ 65_535 → Laying m′ i′ b′ (k + 1)
     unfolding windowMoved moves
     laying-next h m′ i′ b′ e lm li eb few =
@@ -352,11 +354,12 @@ module _ (rd : Bool) (f lo hi : ℕ) (list : List Link) (n last : ℕ) (m₀ i�
           long-i = li ∙ y .long-i;
           all = q .1;
           left =
-              y .left
-              ∙ ap (λ (xs : List Link). windowMoved rd f (map rangeOf xs) b lo hi (lent m i)) next
-              ∙ ap₂ (λ (c : ℕ) (s : Store). windowMoved rd f (map rangeOf (left-from (k + 1))) c lo hi s) (sym eb) (sym e);
+              λ u s.
+              y .left u s
+              ∙ ap (λ (xs : List Link). windowMoved u rd f (map rangeOf xs) b lo hi (onUnit u m i s)) next
+              ∙ ap₂ (λ (c : ℕ) (z : Store). windowMoved u rd f (map rangeOf (left-from (k + 1))) c lo hi z) (sym eb) (sym (e u s));
         }
 
-    pub laying-done : last ≤ k → lent m i ≡ windowMoved rd f (map rangeOf (take n list)) 0 lo hi (lent m₀ i₀)
+    pub laying-done : last ≤ k → (u : ℕ) (s : Store) → onUnit u m i s ≡ windowMoved u rd f (map rangeOf (take n list)) 0 lo hi (onUnit u m₀ i₀ s)
     unfolding windowMoved moves
-    laying-done h = sym (y .left ∙ ap (λ (xs : List Link). windowMoved rd f (map rangeOf xs) b lo hi (lent m i)) (no-more-links n list last k (y .going) h))
+    laying-done h u s = sym (y .left u s ∙ ap (λ (xs : List Link). windowMoved u rd f (map rangeOf xs) b lo hi (onUnit u m i s)) (no-more-links n list last k (y .going) h))

@@ -7,32 +7,16 @@ use mathlib.Core.Bool.{false, cond}
 use mathlib.Core.List.{List, [], _∷_}
 use lib.ListN.{take}
 use lib.Dec.{eqb}
-use Rattle.meaning.specs.declared.Drive.{Drive}
+use Rattle.meaning.specs.Drives.{Drives}
 use Rattle.meaning.specs.declared.Record.{Record}
 use Rattle.meaning.specs.declared.Ran.{Ran}
 use Rattle.meaning.specs.Store.{Store}
 use Rattle.meaning.specs.State.{State}
+use Rattle.meaning.specs.Step.{withTaken}
 use Rattle.meaning.specs.Run.{Tally, runNumber, ranTo, runReply}
 use Rattle.board.specs.declared.run.RanTaken.{RanTaken}
 
 -- ---- steps taken
-
--- the same command with so many steps taken
-unfoldable pub withTaken : ℕ → Record → Record
-withTaken n r =
-    record {
-      iopb = r .iopb;
-      address = r .address;
-      sector = r .sector;
-      taken = n;
-      ranges = r .ranges;
-      count = r .count;
-      byte0 = r .byte0;
-      code = r .code;
-      fitted = r .fitted;
-      unused = r .unused;
-      list = r .list;
-    }
 
 -- a table with these steps taken of its first records; those past them are as they are
 abbrev pub tableWith : List ℕ → List Record → List Record
@@ -57,7 +41,7 @@ abbrev pub refusedRun : ℕ → Ran
 refusedRun k = record { steps = 0; refused = 0; number = k; finished = false }
 
 -- its answer, and the steps taken of the 32 records: those after it, or on a refusal those before it
-unfoldable pub runTakes : Drive → ℕ → (State → Tally) → ℕ → State → RanTaken
+unfoldable pub runTakes : Drives → ℕ → (State → Tally) → ℕ → State → RanTaken
 unfolding runNumber ranTo runReply
 runTakes d n go length s =
     let u = handed length s in
@@ -66,7 +50,7 @@ runTakes d n go length s =
       taken = takenOf (cond (eqb (runNumber d n u) 0) (ranTo d n go u .state .table) (s .table));
     }
 
-unfoldable pub RunTakes : Drive → ℕ → (State → Tally) → ℕ → State → RanTaken → Store → Type 0
+unfoldable pub RunTakes : Drives → ℕ → (State → Tally) → ℕ → State → RanTaken → Store → Type 0
 unfolding runTakes ranTo
 RunTakes d n go length s r u =
     (r ≡ runTakes d n go length s) × (u ≡ ranTo d n go (handed length s) .state .store)

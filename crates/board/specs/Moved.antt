@@ -4,7 +4,7 @@ use Prim.Native.Nat.{ℕ, zero, suc, _+_, _*_}
 use mathlib.Core.Bool.{Bool, cond}
 use mathlib.Core.List.{List, map}
 use Rattle.meaning.specs.declared.Record.{Record}
-use Rattle.meaning.specs.Store.{Store, memory, theDisk, area, Move, copy, moves}
+use Rattle.meaning.specs.Store.{Store, memory, disk, area, Move, copy, moves}
 use Rattle.meaning.specs.Sectors.{sectorBytes}
 use Rattle.meaning.specs.Ranges.{Range}
 use Rattle.meaning.specs.Pieces.{Piece, piecesOf}
@@ -15,17 +15,17 @@ unfolding moves sectorMove stepped
 sectorsMoved zero r s = s
 sectorsMoved (suc k) r s = sectorsMoved k (stepped r) (moves (sectorMove r (r .taken)) s)
 
--- where a command's data begins on the disk
+-- where a command's data begins on the disk of its unit
 abbrev pub onDisk : Record → ℕ
 onDisk r = sectorBytes * r .sector
 
--- a piece of data that begins at `from` on the disk: to memory where it is read, to the disk where it is written
-abbrev pub pieceMove : Bool → ℕ → Piece → Move
-pieceMove reading from p =
-    cond reading (copy (area theDisk (from + p .at) (p .many)) memory (inMemory p .from))
-    (copy (inMemory p) theDisk (from + p .at))
+-- a piece of data that begins at `from` on the disk of unit u: to memory where it is read, to the disk where it is written
+abbrev pub pieceMove : ℕ → Bool → ℕ → Piece → Move
+pieceMove u reading from p =
+    cond reading (copy (area (disk u) (from + p .at) (p .many)) memory (inMemory p .from))
+    (copy (inMemory p) (disk u) (from + p .at))
 
 -- bytes lo up to hi of the data in these ranges, of which the first is byte b of the data
-unfoldable pub windowMoved : Bool → ℕ → List Range → ℕ → ℕ → ℕ → Store → Store
+unfoldable pub windowMoved : ℕ → Bool → ℕ → List Range → ℕ → ℕ → ℕ → Store → Store
 unfolding moves
-windowMoved reading from rs b lo hi s = moves (map (pieceMove reading from) (piecesOf rs b lo hi)) s
+windowMoved u reading from rs b lo hi s = moves (map (pieceMove u reading from) (piecesOf rs b lo hi)) s

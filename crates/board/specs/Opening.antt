@@ -3,7 +3,7 @@
 use Prim.Native.Nat.{ℕ, _+_}
 use mathlib.Core.Bool.{Bool, _||_, cond}
 use lib.Dec.{ltb}
-use Rattle.meaning.specs.declared.Drive.{Drive}
+use Rattle.meaning.specs.Drives.{Drives}
 use Rattle.meaning.specs.Store.{Store}
 use Rattle.meaning.specs.State.{mostCommands}
 use Rattle.meaning.specs.Sizes.{storeWrong}
@@ -14,5 +14,5 @@ abbrev pub seenWith : Bool → Bool → ℕ → Seen → Seen
 seenWith in-use bad left seen = cond in-use (record { left = seen .left + left; spoiled = seen .spoiled || bad }) seen
 
 -- 1 and 9, of a caller's table of so many records
-abbrev pub firstNumber : Drive → ℕ → Bool → Store → ℕ
+abbrev pub firstNumber : Drives → ℕ → Bool → Store → ℕ
 firstNumber d length spoiled s = cond (storeWrong d s || ltb length mostCommands) 1 (cond spoiled 9 0)

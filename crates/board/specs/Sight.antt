@@ -1,4 +1,4 @@
--- What a pick sees of its table, and what it answers and changes by that. d is the drive, n the number of commands, p the place, r the
+-- What a pick sees of its table, and what it answers and changes by that. d are the drives, n the number of commands, p the place, r the
 -- record that is looked at there, and s the store before.
 use mathlib.Core.Path.{_≡_}
 use Prim.Native.Nat.{ℕ, _+_, min}
@@ -6,7 +6,7 @@ use mathlib.Core.Bool.{Bool, not, _&&_, cond}
 use mathlib.Core.List.{List, [], _∷_}
 use lib.ListN.{getD, set, take}
 use lib.Dec.{ltb, leb, eqb}
-use Rattle.meaning.specs.declared.Drive.{Drive}
+use Rattle.meaning.specs.Drives.{Drives}
 use Rattle.meaning.specs.declared.Record.{Record}
 use Rattle.meaning.specs.First.{Row, firstOf, _↝_}
 use Rattle.meaning.specs.Each.{someOf}
@@ -15,12 +15,11 @@ use Rattle.meaning.specs.State.{mostCommands}
 use Rattle.meaning.specs.Sizes.{storeWrong}
 use Rattle.meaning.specs.Command.{finished, noRecord}
 use Rattle.meaning.specs.Touch.{conflict}
-use Rattle.meaning.specs.Step.{step}
+use Rattle.meaning.specs.Step.{step, withTaken}
 use Rattle.meaning.specs.Pick.{badRecord}
 use Rattle.command.specs.Data.{badIn}
 use Rattle.board.specs.declared.pick.Sight.{Sight}
 use Rattle.board.specs.declared.pick.PickedTaken.{PickedTaken}
-use Rattle.board.specs.Changes.{withTaken}
 
 -- ---- what is seen
 
@@ -33,7 +32,7 @@ abbrev pub blocking : Record → Record → Bool
 blocking r e = not (finished e) && conflict e r
 
 -- of the first n records of a table, for a pick at p, where memory has so many bytes
-unfoldable pub sightOf : ℕ → Drive → ℕ → ℕ → List Record → Sight
+unfoldable pub sightOf : ℕ → Drives → ℕ → ℕ → List Record → Sight
 unfolding badIn finished conflict
 sightOf size d n p t =
     record {
@@ -44,7 +43,7 @@ sightOf size d n p t =
 -- ---- what is answered, and what is changed
 
 -- The numbers in their order. The last row asks again of the record at the place what was asked of all in use.
-abbrev pub sightRows : Drive → ℕ → ℕ → Record → Sight → Store → List Row
+abbrev pub sightRows : Drives → ℕ → ℕ → Record → Sight → Store → List Row
 sightRows d n p r seen s =
     storeWrong d s ↝ 1
     ∷ ltb mostCommands n ↝ 9
@@ -55,7 +54,7 @@ sightRows d n p r seen s =
     ∷ badRecord d s r ↝ 9
     ∷ []
 
-unfoldable pub sightNumber : Drive → ℕ → ℕ → Record → Sight → Store → ℕ
+unfoldable pub sightNumber : Drives → ℕ → ℕ → Record → Sight → Store → ℕ
 unfolding storeWrong finished badRecord
 sightNumber d n p r seen s = firstOf (sightRows d n p r seen s) 0
 
@@ -63,7 +62,7 @@ abbrev pub refusedPick : ℕ → PickedTaken
 refusedPick k = record { number = k; taken = 0 }
 
 -- on 0 one step more is taken there; a is the answer, u the store after
-unfoldable pub PickSees : Drive → ℕ → ℕ → Record → Sight → Store → PickedTaken → Store → Type 0
+unfoldable pub PickSees : Drives → ℕ → ℕ → Record → Sight → Store → PickedTaken → Store → Type 0
 unfolding sightNumber step
 PickSees d n p r seen s a u =
     let k = sightNumber d n p r seen s in

@@ -4,10 +4,11 @@ use crate::RECORDS;
 use crate::step;
 use chain::sizes;
 use command::sound;
-use meaning::Drive;
+use meaning::LentDrives;
 use meaning::Record;
 ghost use mathlib.Core.Path.{_≡_};
-ghost use Rattle.meaning.specs.Store.{lent};
+ghost use Rattle.meaning.specs.Store.{lent, images};
+ghost use Rattle.meaning.specs.Drives.{drivesOf};
 ghost use Rattle.board.specs.Sight.{placeSeen, refusedPick, PickSees};
 
 // What a pick sees of its table beside the record at its place: whether a record in use is bad, and whether an earlier unfinished command
@@ -42,16 +43,19 @@ fn refused(number: u8) -> PickedTaken
 // exported calls can lend all of it at their own.
 pub fn pick_seen<'a>(
     memory: &'a mut [u8],
-    image: &'a mut [u8],
-    d: Drive,
+    image0: &'a mut [u8],
+    image1: &'a mut [u8],
+    image2: &'a mut [u8],
+    image3: &'a mut [u8],
+    l: LentDrives,
     r: Record,
     seen: Sight,
     commands: usize,
     place: usize,
 ) -> PickedTaken
-    ensures { λ a. ⌜ PickSees d commands place r seen (lent (now (memory .entry)) (now (image .entry))) a (lent (now (memory .exit)) (now (image .exit))) ⌝ }
+    ensures { λ a. ⌜ PickSees (drivesOf l) commands place r seen (lent (now (memory .entry)) (images (now (image0 .entry)) (now (image1 .entry)) (now (image2 .entry)) (now (image3 .entry)))) a (lent (now (memory .exit)) (images (now (image0 .exit)) (now (image1 .exit)) (now (image2 .exit)) (now (image3 .exit)))) ⌝ }
 {
-    if sizes::sizes_wrong(memory, image, d) {
+    if sizes::sizes_wrong(memory, image0, image1, image2, image3, l) {
         return refused(1);
     }
     if RECORDS < commands {
@@ -69,10 +73,10 @@ pub fn pick_seen<'a>(
     if seen.blocked {
         return refused(6);
     }
-    if sound::bad_record(memory.len() as u64, d, r) {
+    if sound::bad_record(memory.len() as u64, l, r) {
         return refused(9);
     }
-    step::take_steps(memory, image, d, r, 1);
+    step::take_steps(memory, image0, image1, image2, image3, l, r, 1);
     PickedTaken {
         number: 0,
         taken: r.taken + 1,

@@ -6,7 +6,7 @@ use crate::table;
 use chain::sizes;
 use command::sound;
 use command::touch;
-use meaning::Drive;
+use meaning::LentDrives;
 use meaning::Ran;
 use meaning::Record;
 ghost use mathlib.Core.Path.{_≡_};
@@ -14,8 +14,9 @@ ghost use Prim.Native.Nat.{_+_, _*_, _≤_, _<_, min};
 ghost use mathlib.Core.Bool.{_||_};
 ghost use lib.ListN.{length};
 ghost use lib.Dec.{ltb};
-ghost use Rattle.meaning.specs.Store.{lent};
-ghost use Rattle.meaning.specs.State.{stateOf, mostCommands};
+ghost use Rattle.meaning.specs.Store.{lent, images};
+ghost use Rattle.meaning.specs.Drives.{drivesOf};
+ghost use Rattle.meaning.specs.State.{stateIn, mostCommands};
 ghost use Rattle.meaning.specs.Sizes.{storeWrong};
 ghost use Rattle.meaning.specs.Run as run;
 ghost use Rattle.board.specs.Changes.{RunTakes, refusedRun};
@@ -49,21 +50,38 @@ fn with_record(seen: Seen, in_use: bool, bad: bool, left: u32) -> Seen
     }
 }
 
-// Number 1: memory or image of a wrong size, or a table of so many records that is too short.
-fn sizes_wrong(memory: &[u8], image: &[u8], d: Drive, length: usize) -> bool
-    ensures { λ b. ⌜ b ≡ (storeWrong d (lent (now (memory .entry)) (now (image .entry))) || ltb length mostCommands) ⌝ }
+// Number 1: memory or an image of a wrong size, or a table of so many records that is too short.
+fn sizes_wrong(
+    memory: &[u8],
+    image0: &[u8],
+    image1: &[u8],
+    image2: &[u8],
+    image3: &[u8],
+    l: LentDrives,
+    length: usize,
+) -> bool
+    ensures { λ b. ⌜ b ≡ (storeWrong (drivesOf l) (lent (now (memory .entry)) (images (now (image0 .entry)) (now (image1 .entry)) (now (image2 .entry)) (now (image3 .entry)))) || ltb length mostCommands) ⌝ }
 {
-    if sizes::sizes_wrong(memory, image, d) {
+    if sizes::sizes_wrong(memory, image0, image1, image2, image3, l) {
         return true;
     }
     length < RECORDS
 }
 
 // Numbers 1 and 9, which both runs test first.
-fn first_number(memory: &[u8], image: &[u8], d: Drive, length: usize, spoiled: bool) -> u8
-    ensures { λ n. ⌜ n ≡ firstNumber d length spoiled (lent (now (memory .entry)) (now (image .entry))) ⌝ }
+fn first_number(
+    memory: &[u8],
+    image0: &[u8],
+    image1: &[u8],
+    image2: &[u8],
+    image3: &[u8],
+    l: LentDrives,
+    length: usize,
+    spoiled: bool,
+) -> u8
+    ensures { λ n. ⌜ n ≡ firstNumber (drivesOf l) length spoiled (lent (now (memory .entry)) (images (now (image0 .entry)) (now (image1 .entry)) (now (image2 .entry)) (now (image3 .entry)))) ⌝ }
 {
-    if sizes_wrong(memory, image, d, length) {
+    if sizes_wrong(memory, image0, image1, image2, image3, l, length) {
         return 1;
     }
     if spoiled {
@@ -145,14 +163,17 @@ fn picks_alike(picks: &[u8], from: usize, left: u32) -> u32
 // that may go take their steps at once.
 pub fn picks_taken<'a>(
     memory: &'a mut [u8],
-    image: &'a mut [u8],
-    d: Drive,
+    image0: &'a mut [u8],
+    image1: &'a mut [u8],
+    image2: &'a mut [u8],
+    image3: &'a mut [u8],
+    l: LentDrives,
     table: [Record; 32],
     length: usize,
     commands: usize,
     picks: &'a [u8],
 ) -> RanTaken
-    ensures { λ r. ⌜ RunTakes d commands (run.byPicks d commands (now (picks .entry))) length (stateOf (now (memory .entry)) (now (image .entry)) table) r (lent (now (memory .exit)) (now (image .exit))) ⌝ }
+    ensures { λ r. ⌜ RunTakes (drivesOf l) commands (run.byPicks (drivesOf l) commands (now (picks .entry))) length (stateIn (lent (now (memory .entry)) (images (now (image0 .entry)) (now (image1 .entry)) (now (image2 .entry)) (now (image3 .entry)))) table) r (lent (now (memory .exit)) (images (now (image0 .exit)) (now (image1 .exit)) (now (image2 .exit)) (now (image3 .exit)))) ⌝ }
 {
     let mut taken = [0u32; 32];
     let mut footprints = [touch::no_footprint(); 32];
@@ -164,13 +185,13 @@ pub fn picks_taken<'a>(
     while k < RECORDS {
         let r = table[k];
         taken[k] = r.taken;
-        let j = sound::judge(memory.len() as u64, d, r);
+        let j = sound::judge(memory.len() as u64, l, r);
         let f = j.footprint;
         footprints[k] = f;
         seen = with_record(seen, k < commands, j.bad, command::remaining(r));
         k += 1;
     }
-    let number = first_number(memory, image, d, length, seen.spoiled);
+    let number = first_number(memory, image0, image1, image2, image3, l, length, seen.spoiled);
     if number != 0 {
         return RanTaken {
             ran: refused(number),
@@ -215,7 +236,7 @@ pub fn picks_taken<'a>(
         }
         searched[place] = earlier;
         let n = picks_alike(picks, at, command::remaining(r));
-        step::take_steps(memory, image, d, r, n);
+        step::take_steps(memory, image0, image1, image2, image3, l, r, n);
         taken[place] = r.taken + n;
         steps += n as u64;
         next = at + n as usize;
@@ -232,14 +253,17 @@ pub fn picks_taken<'a>(
 // A run as written beneath both faces: each command in turn as far as the budget goes, always the earliest unfinished one (Run 5).
 pub fn written_taken<'a>(
     memory: &'a mut [u8],
-    image: &'a mut [u8],
-    d: Drive,
+    image0: &'a mut [u8],
+    image1: &'a mut [u8],
+    image2: &'a mut [u8],
+    image3: &'a mut [u8],
+    l: LentDrives,
     table: [Record; 32],
     length: usize,
     commands: usize,
     budget: u64,
 ) -> RanTaken
-    ensures { λ r. ⌜ RunTakes d commands (run.asWritten d commands budget) length (stateOf (now (memory .entry)) (now (image .entry)) table) r (lent (now (memory .exit)) (now (image .exit))) ⌝ }
+    ensures { λ r. ⌜ RunTakes (drivesOf l) commands (run.asWritten (drivesOf l) commands budget) length (stateIn (lent (now (memory .entry)) (images (now (image0 .entry)) (now (image1 .entry)) (now (image2 .entry)) (now (image3 .entry)))) table) r (lent (now (memory .exit)) (images (now (image0 .exit)) (now (image1 .exit)) (now (image2 .exit)) (now (image3 .exit)))) ⌝ }
 {
     let mut taken = [0u32; 32];
     let mut seen = Seen {
@@ -250,11 +274,11 @@ pub fn written_taken<'a>(
     while k < RECORDS {
         let r = table[k];
         taken[k] = r.taken;
-        let bad = sound::bad_record(memory.len() as u64, d, table[k]);
+        let bad = sound::bad_record(memory.len() as u64, l, table[k]);
         seen = with_record(seen, k < commands, bad, command::remaining(r));
         k += 1;
     }
-    let number = first_number(memory, image, d, length, seen.spoiled);
+    let number = first_number(memory, image0, image1, image2, image3, l, length, seen.spoiled);
     if number != 0 {
         return RanTaken {
             ran: refused(number),
@@ -266,7 +290,7 @@ pub fn written_taken<'a>(
     while at < commands {
         let r = table[at];
         let n = fewer(left, command::remaining(r));
-        step::take_steps(memory, image, d, r, n);
+        step::take_steps(memory, image0, image1, image2, image3, l, r, n);
         taken[at] = r.taken + n;
         left -= n as u64;
         at += 1;

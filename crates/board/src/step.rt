@@ -1,19 +1,22 @@
-// Steps of a command, one or several at once: its sectors move between memory and image, and the last step closes the command. Sectors
-// that follow each other lie side by side on the disk, and in memory either side by side too or in the ranges of a link list.
+// Steps of a command, one or several at once: its sectors move between memory and the image of its unit, and the last step closes the
+// command. Sectors that follow each other lie side by side on the disk, and in memory either side by side too or in the ranges of a link
+// list. One function goes from the unit to its image; all beneath it have one image, whatever the other units hold.
 use chain::links;
 use command::closing;
-use meaning::Drive;
+use meaning::LentDrives;
 use meaning::Link;
 use meaning::Record;
 ghost use mathlib.Core.Path.{_≡_};
 ghost use mathlib.Core.Logic.{_≢_};
 ghost use mathlib.Core.Bool.{true};
-ghost use mathlib.Core.List.{map};
+ghost use mathlib.Core.List.{[], map};
 ghost use Prim.Native.Nat.{_+_, _-_, _*_, _≤_, min};
-ghost use lib.ListN.{length, take, drop};
+ghost use lib.ListN.{length, getD, take, drop};
 ghost use lib.Seq.{sets};
 ghost use Rattle.meaning.specs.Sectors.{sectorBytes};
-ghost use Rattle.meaning.specs.Store.{lent, move};
+ghost use Prim.Native.Nat.{ℕ};
+ghost use Rattle.meaning.specs.Drives.{drivesOf};
+ghost use Rattle.meaning.specs.Store.{Store, lent, images, move};
 ghost use Rattle.meaning.specs.Links.{rangeOf};
 ghost use Rattle.meaning.specs.Pieces.{pieceOf};
 ghost use Rattle.meaning.specs.Command.{transfers, remaining};
@@ -21,6 +24,7 @@ ghost use Rattle.meaning.specs.Step as step;
 ghost use Rattle.meaning.proofs.All.{All};
 ghost use Rattle.meaning.proofs.Conditions.{Inside};
 ghost use Rattle.meaning.specs.Run.{stepsDone};
+ghost use Rattle.board.specs.OneUnit.{onUnit};
 ghost use Rattle.board.specs.Ready.{Ready};
 ghost use Rattle.board.specs.Moved.{sectorsMoved, pieceMove, windowMoved};
 
@@ -52,11 +56,11 @@ fn copy_sectors(src: &[u8], from: usize, dst: &mut [u8], to: usize, n: usize)
 }
 
 // The close: bytes 0 to 3 of the command's own IOPB, byte 0 from the copied one.
-fn close(memory: &mut [u8], d: Drive, r: Record)
+fn close(memory: &mut [u8], l: LentDrives, r: Record)
     requires { ⌜ r .iopb + 4 ≤ length (now memory) ⌝ }
-    ensures { λ _. ⌜ now (memory .exit) ≡ sets (now (memory .entry)) (r .iopb) (step.closing d r) ⌝ }
+    ensures { λ _. ⌜ now (memory .exit) ≡ sets (now (memory .entry)) (r .iopb) (step.closing (drivesOf l) r) ⌝ }
 {
-    let posted = closing::posted(d, r);
+    let posted = closing::posted(l, r);
     let at = r.iopb as usize;
     memory[at] = posted.byte0;
     memory[at + 1] = posted.code;
@@ -88,7 +92,7 @@ fn move_piece(
     hi: usize,
 )
     requires { ⌜ (x .address + x .length ≤ length (now memory)) × (disk + hi ≤ length (now image)) × (b ≤ 2_097_152) ⌝ }
-    ensures { λ _. ⌜ lent (now (memory .exit)) (now (image .exit)) ≡ move (pieceMove reading disk (pieceOf (rangeOf x) b lo hi)) (lent (now (memory .entry)) (now (image .entry))) ⌝ }
+    ensures { λ _. ⌜ ((u : ℕ) (s : Store) → onUnit u (now (memory .exit)) (now (image .exit)) s ≡ move (pieceMove u reading disk (pieceOf (rangeOf x) b lo hi)) (onUnit u (now (memory .entry)) (now (image .entry)) s)) ⌝ }
 {
     let size = x.length as usize;
     let skip = before(size, b, lo);
@@ -125,7 +129,7 @@ fn move_pieces(
     hi: usize,
 )
     requires { ⌜ All (λ x. Inside (length (now memory)) (rangeOf x)) (take n list) × (disk + hi ≤ length (now image)) ⌝ }
-    ensures { λ _. ⌜ lent (now (memory .exit)) (now (image .exit)) ≡ windowMoved reading disk (map rangeOf (take n list)) 0 lo hi (lent (now (memory .entry)) (now (image .entry))) ⌝ }
+    ensures { λ _. ⌜ ((u : ℕ) (s : Store) → onUnit u (now (memory .exit)) (now (image .exit)) s ≡ windowMoved u reading disk (map rangeOf (take n list)) 0 lo hi (onUnit u (now (memory .entry)) (now (image .entry)) s)) ⌝ }
 {
     let last = links::held(n);
     let mut b: usize = 0;
@@ -140,8 +144,8 @@ fn move_pieces(
 
 // The sectors of the next n steps of a transfer with a list.
 fn move_listed(memory: &mut [u8], image: &mut [u8], r: Record, n: u32)
-    requires { ⌜ Ready n r (lent (now memory) (now image)) × (transfers r ≡ true) × (r .ranges ≢ 0) ⌝ }
-    ensures { λ _. ⌜ lent (now (memory .exit)) (now (image .exit)) ≡ sectorsMoved n r (lent (now (memory .entry)) (now (image .entry))) ⌝ }
+    requires { ⌜ Ready n r (length (now memory)) (length (now image)) × (transfers r ≡ true) × (r .ranges ≢ 0) ⌝ }
+    ensures { λ _. ⌜ ((s : Store) → onUnit (r .unit) (now (memory .exit)) (now (image .exit)) s ≡ sectorsMoved n r (onUnit (r .unit) (now (memory .entry)) (now (image .entry)) s)) ⌝ }
 {
     let reading = command::reads(r);
     let disk = SECTOR_BYTES * r.sector as usize;
@@ -153,8 +157,8 @@ fn move_listed(memory: &mut [u8], image: &mut [u8], r: Record, n: u32)
 
 // The sectors of the next n steps of a command without a list: they lie side by side in memory too. A command that is no transfer moves none.
 fn move_plain(memory: &mut [u8], image: &mut [u8], r: Record, n: u32)
-    requires { ⌜ (1 ≤ n) × Ready n r (lent (now memory) (now image)) × (r .ranges ≡ 0) ⌝ }
-    ensures { λ _. ⌜ lent (now (memory .exit)) (now (image .exit)) ≡ sectorsMoved n r (lent (now (memory .entry)) (now (image .entry))) ⌝ }
+    requires { ⌜ (1 ≤ n) × Ready n r (length (now memory)) (length (now image)) × (r .ranges ≡ 0) ⌝ }
+    ensures { λ _. ⌜ ((s : Store) → onUnit (r .unit) (now (memory .exit)) (now (image .exit)) s ≡ sectorsMoved n r (onUnit (r .unit) (now (memory .entry)) (now (image .entry)) s)) ⌝ }
 {
     let step = r.taken as usize;
     let on_disk = SECTOR_BYTES * (r.sector as usize + step);
@@ -172,8 +176,8 @@ fn move_plain(memory: &mut [u8], image: &mut [u8], r: Record, n: u32)
 
 // The sectors of the next n steps of a command move between memory and image.
 fn move_sectors(memory: &mut [u8], image: &mut [u8], r: Record, n: u32)
-    requires { ⌜ (1 ≤ n) × Ready n r (lent (now memory) (now image)) ⌝ }
-    ensures { λ _. ⌜ lent (now (memory .exit)) (now (image .exit)) ≡ sectorsMoved n r (lent (now (memory .entry)) (now (image .entry))) ⌝ }
+    requires { ⌜ (1 ≤ n) × Ready n r (length (now memory)) (length (now image)) ⌝ }
+    ensures { λ _. ⌜ ((s : Store) → onUnit (r .unit) (now (memory .exit)) (now (image .exit)) s ≡ sectorsMoved n r (onUnit (r .unit) (now (memory .entry)) (now (image .entry)) s)) ⌝ }
 {
     if r.ranges == 0 {
         move_plain(memory, image, r, n);
@@ -185,18 +189,58 @@ fn move_sectors(memory: &mut [u8], image: &mut [u8], r: Record, n: u32)
     }
 }
 
+// The same between memory and the image of the command's own unit. A command that is no transfer moves none, whatever its unit.
+fn move_on_unit(
+    memory: &mut [u8],
+    image0: &mut [u8],
+    image1: &mut [u8],
+    image2: &mut [u8],
+    image3: &mut [u8],
+    r: Record,
+    n: u32,
+)
+    requires { ⌜ (1 ≤ n) × Ready n r (length (now memory)) (length (getD (images (now image0) (now image1) (now image2) (now image3)) (r .unit) [])) ⌝ }
+    ensures { λ _. ⌜ (lent (now (memory .exit)) (images (now (image0 .exit)) (now (image1 .exit)) (now (image2 .exit)) (now (image3 .exit)))) ≡ sectorsMoved n r (lent (now (memory .entry)) (images (now (image0 .entry)) (now (image1 .entry)) (now (image2 .entry)) (now (image3 .entry)))) ⌝ }
+{
+    if !command::transfers(r) {
+        return;
+    }
+    if r.unit == 0 {
+        move_sectors(memory, image0, r, n);
+        return;
+    }
+    if r.unit == 1 {
+        move_sectors(memory, image1, r, n);
+        return;
+    }
+    if r.unit == 2 {
+        move_sectors(memory, image2, r, n);
+        return;
+    }
+    move_sectors(memory, image3, r, n);
+}
+
 // The next n steps of a command: its sectors move, and the last step then closes the command. Nothing else closes it.
-pub(crate) fn take_steps(memory: &mut [u8], image: &mut [u8], d: Drive, r: Record, n: u32)
-    requires { ⌜ (n ≤ remaining r) × Ready n r (lent (now memory) (now image)) ⌝ }
-    ensures { λ _. ⌜ lent (now (memory .exit)) (now (image .exit)) ≡ stepsDone d n r (lent (now (memory .entry)) (now (image .entry))) ⌝ }
+pub(crate) fn take_steps(
+    memory: &mut [u8],
+    image0: &mut [u8],
+    image1: &mut [u8],
+    image2: &mut [u8],
+    image3: &mut [u8],
+    l: LentDrives,
+    r: Record,
+    n: u32,
+)
+    requires { ⌜ (n ≤ remaining r) × Ready n r (length (now memory)) (length (getD (images (now image0) (now image1) (now image2) (now image3)) (r .unit) [])) ⌝ }
+    ensures { λ _. ⌜ (lent (now (memory .exit)) (images (now (image0 .exit)) (now (image1 .exit)) (now (image2 .exit)) (now (image3 .exit)))) ≡ stepsDone (drivesOf l) n r (lent (now (memory .entry)) (images (now (image0 .entry)) (now (image1 .entry)) (now (image2 .entry)) (now (image3 .entry)))) ⌝ }
 {
     if n == 0 {
         return;
     }
-    move_sectors(memory, image, r, n);
+    move_on_unit(memory, image0, image1, image2, image3, r, n);
     let left = command::remaining(r) - n;
     if left == 0 {
-        close(memory, d, r);
+        close(memory, l, r);
         return;
     }
 }

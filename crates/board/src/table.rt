@@ -2,7 +2,7 @@
 use crate::RECORDS;
 use meaning::Record;
 ghost use mathlib.Core.Path.{_≡_};
-ghost use Rattle.board.specs.Changes.{withTaken, tableWith};
+ghost use Rattle.meaning.specs.Step.{withTaken};
 
 // The same command with so many steps taken.
 pub fn with_taken(r: Record, taken: u32) -> Record

@@ -29,7 +29,8 @@ use Rattle.meaning.proofs.Numbers.{rows-off, off-last, off-last-in}
 use Rattle.meaning.proofs.Links.{few-links, some-links, length-links, links-kept}
 use Rattle.chain.specs.declared.code.Verdict.{Verdict}
 use Rattle.chain.specs.Coding.{toRead, fixedAs, verdictOf, earlyRows, plainRows, listRows, listCode, lateVerdict}
-use Rattle.chain.specs.Records.{recordAt, plainRecordAt}
+use Rattle.meaning.specs.Drives.{Drives}
+use Rattle.chain.specs.Records.{recordAt, plainRecordOf, plainRecordAt}
 
 -- ---- rows, read in any column
 
@@ -240,7 +241,7 @@ pub record-made : (m : List ℕ) (c : Copied) (a : ℕ) (d : Drive) (early : Ver
     → list ≡ padded (linksAt m (c .address) ranges)
     → sector ≡ firstSector d c
     → verdict ≡ lateVerdict c early (length m) (take ranges list) ranges
-    → record { iopb = a; address = c .address; sector = sector; taken = 0; ranges = ranges; count = c .count; byte0 = c .byte0; code = verdict .code; fitted = verdict .fitted; unused = 0; list = list }
+    → record { iopb = a; address = c .address; sector = sector; taken = 0; ranges = ranges; count = c .count; unit = c .unit; byte0 = c .byte0; code = verdict .code; fitted = verdict .fitted; list = list }
     ≡ recordOf c a d m
 unfolding recordOf
 record-made m c a d early ranges sector list verdict is-early is-ranges is-list is-sector is-verdict =
@@ -253,30 +254,32 @@ record-made m c a d early ranges sector list verdict is-early is-ranges is-list 
     ∙ ap₂ (λ (xs : List Link) (n : ℕ). lateVerdict c (verdictOf (earlyRows c d)) (length m) xs n) first many
     ∙ verdict-is m c d
     in
-    λ j. record { iopb = a; address = c .address; sector = is-sector j; taken = 0; ranges = ranges-is j; count = c .count; byte0 = c .byte0; code = is-rule j .code; fitted = is-rule j .fitted; unused = 0; list = read j }
+    λ j. record { iopb = a; address = c .address; sector = is-sector j; taken = 0; ranges = ranges-is j; count = c .count; unit = c .unit; byte0 = c .byte0; code = is-rule j .code; fitted = is-rule j .fitted; list = read j }
 
 -- ---- a record with no list
 
-pub plain-made : (m : List ℕ) (a : ℕ) (d : Drive) (c : Copied) (early : Verdict) (sector : ℕ) (list : List Link) (verdict : Verdict)
+pub plain-made : (m : List ℕ) (a : ℕ) (d : Drives) (c : Copied) (own : Drive) (early : Verdict) (sector : ℕ) (list : List Link) (verdict : Verdict)
     → c ≡ copiedAt m a
-    → early ≡ verdictOf (earlyRows c d)
+    → own ≡ d .on (c .unit)
+    → early ≡ verdictOf (earlyRows c own)
     → list ≡ noLinks
-    → sector ≡ firstSector d c
+    → sector ≡ firstSector own c
     → verdict ≡ lateVerdict c early (length m) [] 0
-    → record { iopb = a; address = c .address; sector = sector; taken = 0; ranges = 0; count = c .count; byte0 = c .byte0; code = verdict .code; fitted = verdict .fitted; unused = 0; list = list }
+    → record { iopb = a; address = c .address; sector = sector; taken = 0; ranges = 0; count = c .count; unit = c .unit; byte0 = c .byte0; code = verdict .code; fitted = verdict .fitted; list = list }
     ≡ plainRecordAt m d a
-unfolding plainRecordAt
-plain-made m a d c early sector list verdict is-copied is-early is-list is-sector is-verdict =
-    let sector-is : sector ≡ firstSector d (copiedAt m a) = is-sector ∙ ap (firstSector d) is-copied in
-    let early-is : early ≡ verdictOf (earlyRows (copiedAt m a) d) = is-early ∙ ap (λ (x : Copied). verdictOf (earlyRows x d)) is-copied in
-    let is-late : verdict ≡ lateVerdict (copiedAt m a) (verdictOf (earlyRows (copiedAt m a) d)) (length m) [] 0 = is-verdict ∙ ap₂ (λ (x : Copied) (e : Verdict). lateVerdict x e (length m) [] 0) is-copied early-is in
-    λ j. record { iopb = a; address = is-copied j .address; sector = sector-is j; taken = 0; ranges = 0; count = is-copied j .count; byte0 = is-copied j .byte0; code = is-late j .code; fitted = is-late j .fitted; unused = 0; list = is-list j }
+unfolding plainRecordOf
+plain-made m a d c own early sector list verdict is-copied is-own is-early is-list is-sector is-verdict =
+    let is-late : verdict ≡ lateVerdict c (verdictOf (earlyRows c own)) (length m) [] 0 = is-verdict ∙ ap (λ (e : Verdict). lateVerdict c e (length m) [] 0) is-early in
+    (λ j. record { iopb = a; address = c .address; sector = is-sector j; taken = 0; ranges = 0; count = c .count; unit = c .unit; byte0 = c .byte0; code = is-late j .code; fitted = is-late j .fitted; list = is-list j })
+    ∙ ap (λ (o : Drive). plainRecordOf c a o m) is-own
+    ∙ ap (λ (x : Copied). plainRecordOf x a (d .on (x .unit)) m) is-copied
 
 -- where SGM is clear, that is the record
-pub plain-is : (m : List ℕ) (d : Drive) (a : ℕ) → eqb (sgm m a) 1 ≡ false → plainRecordAt m d a ≡ recordAt m d a
-unfolding plainRecordAt copiedAt linksAt
+pub plain-is : (m : List ℕ) (d : Drives) (a : ℕ) → eqb (sgm m a) 1 ≡ false → plainRecordAt m d a ≡ recordAt m d a
+unfolding plainRecordOf copiedAt linksAt
 plain-is m d a g =
     let c = copiedAt m a in
-    let early = verdictOf (earlyRows c d) in
-    record-made m c a d early 0 (firstSector d c) noLinks (lateVerdict c early (length m) [] 0)
+    let own = d .on (c .unit) in
+    let early = verdictOf (earlyRows c own) in
+    record-made m c a own early 0 (firstSector own c) noLinks (lateVerdict c early (length m) [] 0)
     refl (sym (to-read-none c (early .code) (length m) g)) refl refl refl

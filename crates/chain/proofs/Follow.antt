@@ -9,7 +9,7 @@ use mathlib.Core.List.{List, [], _∷_, _++_, map, map-append}
 use lib.ListN.{length, take, drop, set, length-set, length-map, take-append-drop}
 use lib.Seq.{take-suc-set, drop-set-lt, drop-drop, length-take-le}
 use Rattle.meaning.specs.declared.Copied.{Copied}
-use Rattle.meaning.specs.declared.Drive.{Drive}
+use Rattle.meaning.specs.Drives.{Drives}
 use Rattle.meaning.specs.declared.Record.{Record}
 use Rattle.meaning.specs.Each.{someOf}
 use Rattle.meaning.specs.Fields.{allIn}
@@ -24,14 +24,14 @@ use Rattle.chain.specs.Records.{recordAt}
 pub record Walking (m : List ℕ) (start : ℕ) (addresses : List ℕ) (n at : ℕ) : Type 0 where
   pub most : n ≤ 32
   pub long : length addresses ≡ 32
-  pub followed : (d : Drive) → follow 32 m d [] start ≡ follow (32 - n) m d (map (recordAt m d) (take n addresses)) at
+  pub followed : (d : Drives) → follow 32 m d [] start ≡ follow (32 - n) m d (map (recordAt m d) (take n addresses)) at
   pub zeros-left : drop n addresses ≡ drop n noAddresses
 
 abbrev pub ending : ℕ → List ℕ → Found
 ending n addresses = record { walked = record { number = 0; commands = n }; addresses = addresses }
 
 -- a record made of an IOPB says where that is
-pub places-of : (m : List ℕ) (d : Drive) (addresses : List ℕ) → map (λ (r : Record). r .iopb) (map (recordAt m d) addresses) ≡ addresses
+pub places-of : (m : List ℕ) (d : Drives) (addresses : List ℕ) → map (λ (r : Record). r .iopb) (map (recordAt m d) addresses) ≡ addresses
 unfolding recordOf
 places-of m d [] = refl
 places-of m d (a ∷ addresses) = ap (a ∷_) (places-of m d addresses)
@@ -40,7 +40,7 @@ places-of m d (a ∷ addresses) = ap (a ∷_) (places-of m d addresses)
 rest-zeros : (addresses : List ℕ) (n at : ℕ) → drop n addresses ≡ drop n noAddresses → drop (n + 1) (set addresses n at) ≡ drop (n + 1) noAddresses
 rest-zeros addresses n at e = drop-set-lt (n + 1) addresses n at (omega arith) ∙ sym (drop-drop 1 n addresses) ∙ ap (drop 1) e ∙ drop-drop 1 n noAddresses
 
-module _ (m : List ℕ) (start : ℕ) (addresses : List ℕ) (n at : ℕ) (w : Walking m start addresses n at) (d : Drive) where
+module _ (m : List ℕ) (start : ℕ) (addresses : List ℕ) (n at : ℕ) (w : Walking m start addresses n at) (d : Drives) where
   abbrev commands : List Record
   commands = map (recordAt m d) (take n addresses)
 

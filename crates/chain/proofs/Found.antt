@@ -9,7 +9,7 @@ use lib.ListN.{length, take, drop}
 use lib.Dec.{ltb}
 use lib.Seq.{take-append-seam}
 use borrow.Author.Tests.{lt-ltb, le-ltb}
-use Rattle.meaning.specs.declared.Drive.{Drive}
+use Rattle.meaning.specs.Drives.{Drives}
 use Rattle.meaning.specs.declared.Record.{Record}
 use Rattle.meaning.specs.Each.{someOf}
 use Rattle.meaning.specs.Fields.{allIn}
@@ -27,20 +27,20 @@ use Rattle.chain.specs.Records.{recordAt, filledAt}
 
 -- ---- the number, before the chain is followed
 
-module _ (d : Drive) (start records : ℕ) (m i : List ℕ) where
+module _ (d : Drives) (start records : ℕ) (m : List ℕ) (is : List (List ℕ)) where
   abbrev comes-to : Chain
-  comes-to = chainFor d start records m i
+  comes-to = chainFor d start records m is
 
   pub for-short : records < mostCommands → comes-to ≡ refused 1
   unfolding chainFor
-  for-short h = stop _ _ _ (or-later (storeWrong d (lent m i)) (ltb records mostCommands) (lt-ltb records mostCommands h))
+  for-short h = stop _ _ _ (or-later (storeWrong d (lent m is)) (ltb records mostCommands) (lt-ltb records mostCommands h))
 
-  pub for-wrong : storeWrong d (lent m i) ≡ true → comes-to ≡ refused 1
+  pub for-wrong : storeWrong d (lent m is) ≡ true → comes-to ≡ refused 1
   unfolding chainFor
-  for-wrong e = stop _ _ _ (or-first (storeWrong d (lent m i)) (ltb records mostCommands) e)
+  for-wrong e = stop _ _ _ (or-first (storeWrong d (lent m is)) (ltb records mostCommands) e)
 
-  module _ (long : mostCommands ≤ records) (right : storeWrong d (lent m i) ≡ false) where
-    past-1 : (storeWrong d (lent m i) || ltb records mostCommands) ≡ false
+  module _ (long : mostCommands ≤ records) (right : storeWrong d (lent m is) ≡ false) where
+    past-1 : (storeWrong d (lent m is) || ltb records mostCommands) ≡ false
     past-1 = rw (right, le-ltb records mostCommands long)
 
     pub for-odd : odd start ≡ true → comes-to ≡ refused 2
@@ -53,7 +53,7 @@ module _ (d : Drive) (start records : ℕ) (m i : List ℕ) where
 
 -- ---- the records of a chain
 
-module _ (m : List ℕ) (d : Drive) where
+module _ (m : List ℕ) (d : Drives) where
   -- each is made of the IOPB where it says that this is
   abbrev Made : List Record → Type 0
   Made rs = map (recordAt m d) (map (λ (r : Record). r .iopb) rs) ≡ rs
@@ -86,30 +86,30 @@ module _ (m : List ℕ) (d : Drive) where
 
 -- ---- the walk over a table
 
-module _ (d : Drive) (start : ℕ) (m i : List ℕ) (t : List Record) where
+module _ (d : Drives) (start : ℕ) (m : List ℕ) (is : List (List ℕ)) (t : List Record) where
   abbrev c : Chain
-  c = chainFor d start (length t) m i
+  c = chainFor d start (length t) m is
 
-  same : chainAt d start (stateOf m i t) ≡ c
+  same : chainAt d start (stateOf m is t) ≡ c
   unfolding chainAt chainFor sizesWrong
   same = refl
 
   made : AllMade m d c
   unfolding chainFor
   made =
-      either m d (storeWrong d (lent m i) || ltb (length t) mostCommands) _ _ tt
+      either m d (storeWrong d (lent m is) || ltb (length t) mostCommands) _ _ tt
       (either m d (odd start) _ _ tt (follow-made m d mostCommands [] start refl))
 
   -- there are at most 32 commands, and none where the table is too short
   few : (c′ : Chain) → c ≡ c′ → (answered c′ .commands ≤ length t) × (answered c′ .commands ≤ mostCommands)
   few (refused k) e = (omega arith, omega arith)
   few (accepted rs) e =
-      let most = chain-most d start (stateOf m i t) rs (same ∙ e) in
+      let most = chain-most d start (stateOf m is t) rs (same ∙ e) in
       (go (means-lt (length t) mostCommands), most)
     where
       go : {b : Bool} → Means (length t < mostCommands) b → length rs ≤ length t
-      go (holds h) = absurd (let z : _≡_ {A = ℕ} 0 1 = cc (for-short d start (length t) m i h) in omega arith)
-      go (fails h) = let most = chain-most d start (stateOf m i t) rs (same ∙ e) in omega arith
+      go (holds h) = absurd (let z : _≡_ {A = ℕ} 0 1 = cc (for-short d start (length t) m is h) in omega arith)
+      go (fails h) = let most = chain-most d start (stateOf m is t) rs (same ∙ e) in omega arith
 
   lays : (c′ : Chain) → AllMade m d c′ → filledAt m d (answered c′ .commands) (foundOf c′ .addresses) t ≡ filled c′ t
   lays (refused k) h = refl
@@ -122,10 +122,10 @@ module _ (d : Drive) (start : ℕ) (m i : List ℕ) (t : List Record) where
   abbrev Whole : Found → Type 0
   Whole f =
       ((f .walked .commands ≤ length t) × (f .walked .commands ≤ mostCommands))
-      × WalkGives d start (stateOf m i t) (f .walked) (filledAt m d (f .walked .commands) (f .addresses) t)
+      × WalkGives d start (stateOf m is t) (f .walked) (filledAt m d (f .walked .commands) (f .addresses) t)
 
-  pub found-whole : (records : ℕ) → length t ≡ records → (f : Found) → f ≡ foundOf (chainFor d start records m i) → Whole f
+  pub found-whole : (records : ℕ) → length t ≡ records → (f : Found) → f ≡ foundOf (chainFor d start records m is) → Whole f
   unfolding WalkGives walkReply walkLeaves
   found-whole records long f e =
-      subst Whole (ap (λ (n : ℕ). foundOf (chainFor d start n m i)) long ∙ sym e)
+      subst Whole (ap (λ (n : ℕ). foundOf (chainFor d start n m is)) long ∙ sym e)
       (few c refl, (ap answered (sym same), lays c made ∙ ap (λ (x : Chain). filled x t) (sym same)))

@@ -6,7 +6,7 @@ use native.Mathlib.Omega.{arith}
 use native.Mathlib.Numerals.{add-one}
 use mathlib.Core.List.{List, [], _∷_, map}
 use lib.ListN.{length, set, getD, length-append, length-take, length-drop, length-map, List·getD-map}
-use Rattle.meaning.specs.declared.Drive.{Drive}
+use Rattle.meaning.specs.Drives.{Drives}
 use Rattle.meaning.specs.declared.Record.{Record}
 use Rattle.chain.specs.Records.{over, recordAt, filledAt}
 
@@ -26,7 +26,7 @@ length-over n of to h g = simp (length-append, length-take, length-drop) (omega 
 
 -- ---- the records of IOPBs
 
-module _ (m : List ℕ) (d : Drive) (addresses : List ℕ) (t : List Record) where
+module _ (m : List ℕ) (d : Drives) (addresses : List ℕ) (t : List Record) where
   long : length (map (recordAt m d) addresses) ≡ length addresses
   long = length-map addresses (recordAt m d)
 

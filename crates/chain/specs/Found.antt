@@ -4,7 +4,7 @@ use mathlib.Core.Bool.{_||_, cond}
 use mathlib.Core.List.{List, [], _++_, map}
 use lib.ListN.{length, drop, replicate}
 use lib.Dec.{ltb}
-use Rattle.meaning.specs.declared.Drive.{Drive}
+use Rattle.meaning.specs.Drives.{Drives}
 use Rattle.meaning.specs.Store.{lent}
 use Rattle.meaning.specs.State.{mostCommands}
 use Rattle.meaning.specs.Sizes.{storeWrong}
@@ -12,10 +12,10 @@ use Rattle.meaning.specs.Code.{odd}
 use Rattle.meaning.specs.Walk.{Chain, refused, accepted, follow, answered}
 use Rattle.chain.specs.declared.walk.Found.{Found}
 
--- the chain that a walk comes to whose table has so many records; m is memory and i the image
-unfoldable pub chainFor : Drive → ℕ → ℕ → List ℕ → List ℕ → Chain
+-- the chain that a walk comes to whose table has so many records; m is memory and is the images
+unfoldable pub chainFor : Drives → ℕ → ℕ → List ℕ → List (List ℕ) → Chain
 unfolding storeWrong follow
-chainFor d start records m i = cond (storeWrong d (lent m i) || ltb records mostCommands) (refused 1) (cond (odd start) (refused 2) (follow mostCommands m d [] start))
+chainFor d start records m is = cond (storeWrong d (lent m is) || ltb records mostCommands) (refused 1) (cond (odd start) (refused 2) (follow mostCommands m d [] start))
 
 -- where the IOPBs of its commands are
 abbrev pub iopbsOf : Chain → List ℕ

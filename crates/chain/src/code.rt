@@ -1,6 +1,6 @@
 // What the walk copies from an IOPB, and what it fixes of its command: the code that it will get, and how many sectors would have fitted.
 // First comes what every command is asked, then what only a transfer is asked, then what its data is asked; the first row that applies
-// decides.
+// decides. The drive is always that of the command's own unit.
 use crate::links;
 use meaning::Copied;
 use meaning::Drive;
@@ -138,7 +138,7 @@ fn memory_end(c: Copied, memory: u64) -> End
 fn transfer_verdict(c: Copied, d: Drive) -> Verdict
     ensures { λ v. ⌜ v ≡ verdictOf (transferRows c d) ⌝ }
 {
-    if c.unit != 0 {
+    if !d.present {
         return fixed(0x42, 0);
     }
     if c.count == 0 {

@@ -6,6 +6,7 @@ use crate::ranges;
 use crate::sizes;
 use meaning::Copied;
 use meaning::Drive;
+use meaning::LentDrives;
 use meaning::Record;
 use meaning::Walked;
 use meaning::WalkedTable;
@@ -14,6 +15,8 @@ ghost use mathlib.Core.List.{[]};
 ghost use Prim.Native.Nat.{_+_, _≤_, max};
 ghost use Rattle.meaning.specs.Each.{someOf};
 ghost use Rattle.meaning.specs.Fields.{iopbBytes};
+ghost use Rattle.meaning.specs.Store.{images};
+ghost use Rattle.meaning.specs.Drives.{Drives, drivesOf};
 ghost use Rattle.meaning.specs.State.{mostCommands, stateOf};
 ghost use Rattle.meaning.specs.Walk.{Chain, recordOf, goesOn, shares, follow, WalkGives};
 ghost use Rattle.chain.specs.Found.{foundOf, chainFor};
@@ -29,7 +32,7 @@ pub struct Found {
     pub addresses: [u32; 32],
 }
 
-// A command's record, with no step taken yet. Its list is read only where no code is given before.
+// A command's record, with no step taken yet, by the drive of its own unit. Its list is read only where no code is given before.
 fn record_of(memory: &[u8], c: Copied, at: u32, d: Drive) -> Record
     ensures { λ r. ⌜ r ≡ recordOf c at d (now (memory .entry)) ⌝ }
 {
@@ -45,10 +48,10 @@ fn record_of(memory: &[u8], c: Copied, at: u32, d: Drive) -> Record
         taken: 0,
         ranges,
         count: c.count,
+        unit: c.unit,
         byte0: c.byte0,
         code: verdict.code,
         fitted: verdict.fitted,
-        unused: 0,
         list,
     }
 }
@@ -114,9 +117,9 @@ fn nothing_found(number: u8) -> Found
     Found { walked, addresses }
 }
 
-// From the first IOPB on: each is tested, 5, 3, 4 in turn, and its address is noted, until one ends the chain. The drive has no say in it.
+// From the first IOPB on: each is tested, 5, 3, 4 in turn, and its address is noted, until one ends the chain. The drives have no say in it.
 fn follow_chain(memory: &[u8], start: u32) -> Found
-    ensures { λ f. ⌜ ((d : Drive) → f ≡ foundOf (follow 32 (now (memory .entry)) d [] start)) ⌝ }
+    ensures { λ f. ⌜ ((d : Drives) → f ≡ foundOf (follow 32 (now (memory .entry)) d [] start)) ⌝ }
 {
     let mut addresses = [0u32; 32];
     let mut n: usize = 0;
@@ -147,13 +150,22 @@ fn follow_chain(memory: &[u8], start: u32) -> Found
 
 // What the walk answers with a table of so many records, and where the IOPBs of its commands are: 1, 2, then at each IOPB in turn 5, 3, 4.
 // No record is made yet, so that a caller can fill its table where it lies, and leaves it alone on a refusal.
-pub fn find(memory: &[u8], image: &[u8], d: Drive, start: u32, records: usize) -> Found
-    ensures { λ f. ⌜ f ≡ foundOf (chainFor d start records (now (memory .entry)) (now (image .entry))) ⌝ }
+pub fn find(
+    memory: &[u8],
+    image0: &[u8],
+    image1: &[u8],
+    image2: &[u8],
+    image3: &[u8],
+    l: LentDrives,
+    start: u32,
+    records: usize,
+) -> Found
+    ensures { λ f. ⌜ f ≡ foundOf (chainFor (drivesOf l) start records (now (memory .entry)) (images (now (image0 .entry)) (now (image1 .entry)) (now (image2 .entry)) (now (image3 .entry)))) ⌝ }
 {
     if records < MOST_COMMANDS {
         return nothing_found(1);
     }
-    if sizes::sizes_wrong(memory, image, d) {
+    if sizes::sizes_wrong(memory, image0, image1, image2, image3, l) {
         return nothing_found(1);
     }
     if start % 2 == 1 {
@@ -163,19 +175,21 @@ pub fn find(memory: &[u8], image: &[u8], d: Drive, start: u32, records: usize) -
 }
 
 // The record of the IOPB at an address.
-pub fn record_at(memory: &[u8], d: Drive, at: u32) -> Record
-    ensures { λ r. ⌜ r ≡ recordAt (now (memory .entry)) d at ⌝ }
+pub fn record_at(memory: &[u8], l: LentDrives, at: u32) -> Record
+    ensures { λ r. ⌜ r ≡ recordAt (now (memory .entry)) (drivesOf l) at ⌝ }
 {
-    record_of(memory, code::copied(memory, at), at, d)
+    let c = code::copied(memory, at);
+    record_of(memory, c, at, units::drive_of(l, c.unit))
 }
 
 // The same with no list, which is the record itself where SGM is clear. The list is made before any test, so that the compiler sees one
 // list of zeros on every way, and lays it where the record goes.
-pub fn plain_record_at(memory: &[u8], d: Drive, at: u32) -> Record
-    ensures { λ r. ⌜ r ≡ plainRecordAt (now (memory .entry)) d at ⌝ }
+pub fn plain_record_at(memory: &[u8], l: LentDrives, at: u32) -> Record
+    ensures { λ r. ⌜ r ≡ plainRecordAt (now (memory .entry)) (drivesOf l) at ⌝ }
 {
     let list = links::no_links();
     let c = code::copied(memory, at);
+    let d = units::drive_of(l, c.unit);
     let early = code::early_verdict(c, d);
     let verdict = code::final_verdict(c, early, memory.len() as u64, list, 0);
     Record {
@@ -185,10 +199,10 @@ pub fn plain_record_at(memory: &[u8], d: Drive, at: u32) -> Record
         taken: 0,
         ranges: 0,
         count: c.count,
+        unit: c.unit,
         byte0: c.byte0,
         code: verdict.code,
         fitted: verdict.fitted,
-        unused: 0,
         list,
     }
 }
@@ -196,30 +210,39 @@ pub fn plain_record_at(memory: &[u8], d: Drive, at: u32) -> Record
 // The records of the IOPBs at the first n of these addresses, over those of a table.
 fn filled(
     memory: &[u8],
-    d: Drive,
+    l: LentDrives,
     addresses: [u32; 32],
     n: usize,
     table: [Record; 32],
 ) -> [Record; 32]
     requires { ⌜ n ≤ mostCommands ⌝ }
-    ensures { λ t. ⌜ t ≡ filledAt (now (memory .entry)) d n addresses table ⌝ }
+    ensures { λ t. ⌜ t ≡ filledAt (now (memory .entry)) (drivesOf l) n addresses table ⌝ }
 {
     let mut t = table;
     let mut k = 0;
     while k < n {
-        t[k] = record_at(memory, d, addresses[k]);
+        t[k] = record_at(memory, l, addresses[k]);
         k += 1;
     }
     t
 }
 
 // The walk: on 0 the table is filled, on a refusal nothing is changed.
-pub fn walk(memory: &[u8], image: &[u8], d: Drive, start: u32, table: [Record; 32]) -> WalkedTable
-    ensures { λ r. ⌜ WalkGives d start (stateOf (now (memory .entry)) (now (image .entry)) table) (r .walked) (r .table) ⌝ }
+pub fn walk(
+    memory: &[u8],
+    image0: &[u8],
+    image1: &[u8],
+    image2: &[u8],
+    image3: &[u8],
+    l: LentDrives,
+    start: u32,
+    table: [Record; 32],
+) -> WalkedTable
+    ensures { λ r. ⌜ WalkGives (drivesOf l) start (stateOf (now (memory .entry)) (images (now (image0 .entry)) (now (image1 .entry)) (now (image2 .entry)) (now (image3 .entry))) table) (r .walked) (r .table) ⌝ }
 {
-    let f = find(memory, image, d, start, MOST_COMMANDS);
+    let f = find(memory, image0, image1, image2, image3, l, start, MOST_COMMANDS);
     let walked = f.walked;
     let addresses = f.addresses;
-    let table = filled(memory, d, addresses, walked.commands, table);
+    let table = filled(memory, l, addresses, walked.commands, table);
     WalkedTable { walked, table }
 }

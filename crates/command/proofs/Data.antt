@@ -10,6 +10,7 @@ use lib.Dec.{ltb, leb, eqb}
 use borrow.Author.Tests.{lt-ltb, le-ltb}
 use lib.ListN.{length}
 use Rattle.meaning.specs.declared.Drive.{Drive}
+use Rattle.meaning.specs.Drives.{Drives}
 use Rattle.meaning.specs.declared.Record.{Record}
 use Rattle.meaning.specs.Store.{Store, memory}
 use Rattle.meaning.specs.Sizes.{storeWrong}
@@ -74,32 +75,37 @@ by-hull n f r moves =
 
 -- ---- the rules' number 9 is what the code tests
 
-regroup : (a b c d e f : Bool) → (((((a || b) || c) || d) || e) || f) ≡ (a || ((b || (c || d)) || (e || f)))
-regroup true b c d e f = refl
-regroup false true c d e f = refl
-regroup false false true d e f = refl
-regroup false false false true e f = refl
-regroup false false false false e f = refl
+regroup : (x a b c d e f : Bool) → ((((((x || a) || b) || c) || d) || e) || f) ≡ (x || (a || ((b || (c || d)) || (e || f))))
+regroup true a b c d e f = refl
+regroup false true b c d e f = refl
+regroup false false true c d e f = refl
+regroup false false false true d e f = refl
+regroup false false false false true e f = refl
+regroup false false false false false e f = refl
 
 not-leb : (a n : ℕ) → not (leb a n) ≡ ltb n a
 not-leb a n = same-test (means-above a n) (means-lt n a)
 
-module _ (d : Drive) (s : Store) (right : storeWrong d s ≡ false) (r : Record) where
+module _ (d : Drives) (s : Store) (right : storeWrong d s ≡ false) (r : Record) where
   abbrev n : ℕ
   n = length (s memory)
 
   small : n < far
   small = omega (arith, right-store d s right .memory-fits)
 
-  by-parts : transfers r ≡ true → badTransfer d s r ≡ badMove n d r
+  -- the drive of its own unit
+  abbrev own : Drive
+  own = d .on (r .unit)
+
+  by-parts : transfers r ≡ true → badTransfer d s r ≡ badMove n own r
   unfolding badTransfer badMove
   by-parts moves =
-      regroup (eqb (r .count) 0) (ltb mostLinks (r .ranges)) (someOf (outside n) (dataBytes r)) (not (eqb (bytesIn (dataBytes r)) (sectorBytes * r .count)))
-      (driveEnd d (r .sector) (r .count) .past) (writes r && d .protected)
-      ∙ ap (λ (b : Bool). eqb (r .count) 0 || (b || (driveEnd d (r .sector) (r .count) .past || writes r && d .protected))) (sym (by-hull n small r moves))
+      regroup (not (own .present)) (eqb (r .count) 0) (ltb mostLinks (r .ranges)) (someOf (outside n) (dataBytes r)) (not (eqb (bytesIn (dataBytes r)) (sectorBytes * r .count)))
+      (driveEnd own (r .sector) (r .count) .past) (writes r && own .protected)
+      ∙ ap (λ (b : Bool). not (own .present) || (eqb (r .count) 0 || (b || (driveEnd own (r .sector) (r .count) .past || writes r && own .protected)))) (sym (by-hull n small r moves))
 
   -- what is asked of a transfer is not asked of any other command
-  if-moves : (b : Bool) → transfers r ≡ b → (b && badTransfer d s r) ≡ (b && badMove n d r)
+  if-moves : (b : Bool) → transfers r ≡ b → (b && badTransfer d s r) ≡ (b && badMove n own r)
   if-moves true e = by-parts e
   if-moves false e = refl
 
@@ -107,4 +113,4 @@ module _ (d : Drive) (s : Store) (right : storeWrong d s ≡ false) (r : Record)
   unfolding badRecord badIn
   bad-in =
       ap₂ (λ (a b : Bool). (a || ltb (stepsOf r) (r .taken)) || b) (not-leb (r .iopb + iopbBytes) n) (if-moves (transfers r) refl)
-      ∙ or-assoc (ltb n (r .iopb + iopbBytes)) (ltb (stepsOf r) (r .taken)) (transfers r && badMove n d r)
+      ∙ or-assoc (ltb n (r .iopb + iopbBytes)) (ltb (stepsOf r) (r .taken)) (transfers r && badMove n own r)

@@ -11,16 +11,16 @@ use lib.Dec.{ltb}
 use borrow.Author.Tests.{ltb-false, le-ltb}
 use Rattle.meaning.specs.declared.Record.{Record}
 use Rattle.meaning.specs.Each.{someOf}
-use Rattle.meaning.specs.Store.{theUnit, same}
+use Rattle.meaning.specs.Store.{disk, same}
 use Rattle.meaning.specs.Ranges.{Range, bytes, sectorsOf, crosses, overlap, meet}
 use Rattle.meaning.specs.Command.{reads, writes, transfers}
 use Rattle.meaning.specs.Touch.{Touched, dataBytes, statusBytes, sectors, touchedBy, touched, disturbs, conflict}
 use Rattle.meaning.proofs.All.{All, all-both}
 use Rattle.meaning.proofs.Rows.{and-true, or-second, or-false, or-none}
-use Rattle.meaning.proofs.Tests.{or-no, some-append, some-same, some-or, some-no}
+use Rattle.meaning.proofs.Tests.{and-no, or-no, some-append, some-same, some-or, some-no}
 use Rattle.meaning.proofs.Means.{is-false, means-and}
 use Rattle.meaning.proofs.Conditions.{means-reads, means-writes, not-both}
-use Rattle.meaning.proofs.Ranges.{meet-swap}
+use Rattle.meaning.proofs.Ranges.{overlap-swap, meet-swap}
 use Rattle.meaning.proofs.Pieces.{OfMemory, data-memory}
 use Rattle.command.specs.declared.touch.Hull.{Hull}
 use Rattle.command.specs.Footprints.{nearer, hullWith, hullFrom, hullOf, movedData, footprintOf, hullsMeet, statusMeets, dataMeets, sectorsMeet, footprintsMeet, dataConflicts, sectorsConflict}
@@ -42,30 +42,33 @@ module _ (a n : ℕ) (s : Record) where
   abbrev status-met : Bool
   status-met = crosses a n (s .iopb) 4
 
-  abbrev sectors-met : Bool
-  sectors-met = crosses a n (s .sector) (s .count)
 
   bytes-by : (rd wr : Bool) → meets (bytes a n) (touchedBy rd wr s) ≡ cond (rd || wr) (data-met || status-met) status-met
   bytes-by true wr = some-append (overlap (bytes a n)) (dataBytes s) (statusBytes s ∷ []) ∙ ap (λ (b : Bool). data-met || b) (or-no status-met)
   bytes-by false true = some-append (overlap (bytes a n)) (dataBytes s) (sectors s ∷ statusBytes s ∷ []) ∙ ap (λ (b : Bool). data-met || b) (or-no status-met)
   bytes-by false false = or-no status-met
 
-  no-data : someOf (overlap (sectorsOf theUnit a n)) (dataBytes s) ≡ false
-  no-data = some-no OfMemory (overlap (sectorsOf theUnit a n)) (no-sectors a n theUnit a n) (dataBytes s) (data-memory s)
-
-  sectors-by : (rd wr : Bool) → meets (sectorsOf theUnit a n) (touchedBy rd wr s) ≡ cond (rd || wr) sectors-met false
-  sectors-by true wr =
-      ap (λ (b : Bool). sectors-met || b) (some-append (overlap (sectorsOf theUnit a n)) (dataBytes s) (statusBytes s ∷ []) ∙ or-none _ _ no-data refl)
-      ∙ or-no sectors-met
-  sectors-by false true =
-      some-append (overlap (sectorsOf theUnit a n)) (dataBytes s) (sectors s ∷ statusBytes s ∷ []) ∙ or-second _ _ no-data ∙ or-no sectors-met
-  sectors-by false false = refl
-
   bytes-of : meets (bytes a n) (touched s) ≡ cond (transfers s) (data-met || status-met) status-met
   unfolding touched
   bytes-of = bytes-by (reads s) (writes s)
 
-  sectors-of : meets (sectorsOf theUnit a n) (touched s) ≡ cond (transfers s) sectors-met false
+-- n sectors of a unit from a on
+module _ (u a n : ℕ) (s : Record) where
+  abbrev sectors-met : Bool
+  sectors-met = overlap (sectorsOf u a n) (sectors s)
+
+  no-data : someOf (overlap (sectorsOf u a n)) (dataBytes s) ≡ false
+  no-data = some-no OfMemory (overlap (sectorsOf u a n)) (no-sectors a n u a n) (dataBytes s) (data-memory s)
+
+  sectors-by : (rd wr : Bool) → meets (sectorsOf u a n) (touchedBy rd wr s) ≡ cond (rd || wr) sectors-met false
+  sectors-by true wr =
+      ap (λ (b : Bool). sectors-met || b) (some-append (overlap (sectorsOf u a n)) (dataBytes s) (statusBytes s ∷ []) ∙ or-none _ _ no-data refl)
+      ∙ or-no sectors-met
+  sectors-by false true =
+      some-append (overlap (sectorsOf u a n)) (dataBytes s) (sectors s ∷ statusBytes s ∷ []) ∙ or-second _ _ no-data ∙ or-no sectors-met
+  sectors-by false false = refl
+
+  sectors-of : meets (sectorsOf u a n) (touched s) ≡ cond (transfers s) sectors-met false
   unfolding touched
   sectors-of = sectors-by (reads s) (writes s)
 
@@ -84,7 +87,7 @@ module _ (r s : Record) where
   statusData = someOf (overlap (bytes (r .iopb) 4)) (dataBytes s)
 
   abbrev sectorsSectors : Bool
-  sectorsSectors = crosses (r .sector) (r .count) (s .sector) (s .count)
+  sectorsSectors = overlap (sectors r) (sectors s)
 
 status-swap : (r s : Record) → someOf (λ x. overlap x (bytes (s .iopb) 4)) (dataBytes r) ≡ statusData s r
 status-swap r s =
@@ -109,11 +112,11 @@ abbrev by-kind : Bool → Bool → Bool → Bool → Bool → Bool
 by-kind rd wr d st se = cond rd (d || st) (cond wr (se || st) st)
 
 disturbs-by : (r : Record) (y : Touched) (rd wr : Bool) → disturbs (touchedBy rd wr r) y
-    ≡ by-kind rd wr (someOf (λ x. meets x y) (dataBytes r)) (meets (bytes (r .iopb) 4) y) (meets (sectorsOf theUnit (r .sector) (r .count)) y)
+    ≡ by-kind rd wr (someOf (λ x. meets x y) (dataBytes r)) (meets (bytes (r .iopb) 4) y) (meets (sectors r) y)
 unfolding disturbs
 disturbs-by r y true wr =
     some-append (λ x. meets x y) (dataBytes r) (statusBytes r ∷ []) ∙ ap (λ (b : Bool). someOf (λ x. meets x y) (dataBytes r) || b) (or-no (meets (bytes (r .iopb) 4) y))
-disturbs-by r y false true = ap (λ (b : Bool). meets (sectorsOf theUnit (r .sector) (r .count)) y || b) (or-no (meets (bytes (r .iopb) 4) y))
+disturbs-by r y false true = ap (λ (b : Bool). meets (sectors r) y || b) (or-no (meets (bytes (r .iopb) 4) y))
 disturbs-by r y false false = or-no (meets (bytes (r .iopb) 4) y)
 
 -- the five pairs, and the kinds of both
@@ -125,13 +128,16 @@ disturbs-is : (r s : Record) → disturbs (touched r) (touched s)
 unfolding touched
 disturbs-is r s =
     disturbs-by r (touched s) (reads r) (writes r)
-    ∙ (λ j. by-kind (reads r) (writes r) (data-touches r s j) (bytes-of (r .iopb) 4 s j) (sectors-of (r .sector) (r .count) s j))
+    ∙ (λ j. by-kind (reads r) (writes r) (data-touches r s j) (bytes-of (r .iopb) 4 s j) (sectors-of (r .unit) (r .sector) (r .count) s j))
 
 -- ---- a command that moves nothing
 
 crosses-none : (a n b : ℕ) → crosses a n b 0 ≡ false
 unfolding crosses
 crosses-none a n b = le-ltb (max a b) (min (a + n) (b + 0)) (omega (arith, le-max-right a b, min-le-right (a + n) (b + 0)))
+
+sectors-none : (u a n v b : ℕ) → overlap (sectorsOf u a n) (sectorsOf v b 0) ≡ false
+sectors-none u a n v b = ap (λ (x : Bool). same (disk u) (disk v) && x) (crosses-none a n b) ∙ and-no (same (disk u) (disk v))
 
 if-moved : {A : Type 0} (f : A → Bool) (t : Bool) (c z : A) → f z ≡ false → f (cond t c z) ≡ (t && f c)
 if-moved f true c z e = refl
@@ -215,7 +221,7 @@ five-tested r s =
     let sd = if-moved (someOf (overlap (bytes (r .iopb) 4))) (transfers s) (dataBytes s) [] refl in
     let ds = if-moved (someOf (overlap (bytes (s .iopb) 4))) (transfers r) (dataBytes r) [] refl in
     let dd = both-moved meet [] meet-none (λ x. refl) (transfers r) (transfers s) (dataBytes r) (dataBytes s) in
-    let kk = both-moved (λ (x y : ℕ). crosses (r .sector) x (s .sector) y) 0 (λ x. crosses-none (r .sector) x (s .sector)) (λ x. crosses-swap (r .sector) 0 (s .sector) x ∙ crosses-none (s .sector) x (r .sector)) (transfers r) (transfers s) (r .count) (s .count) in
+    let kk = both-moved (λ (x y : ℕ). overlap (sectorsOf (r .unit) (r .sector) x) (sectorsOf (s .unit) (s .sector) y)) 0 (λ x. sectors-none (r .unit) (r .sector) x (s .unit) (s .sector)) (λ x. overlap-swap (sectorsOf (r .unit) (r .sector) 0) (sectorsOf (s .unit) (s .sector) x) ∙ sectors-none (s .unit) (s .sector) x (r .unit) (r .sector)) (transfers r) (transfers s) (r .count) (s .count) in
     λ j. crosses (r .iopb) 4 (s .iopb) 4 || (sd j || (ds j || (((reads r || reads s) && dd j) || ((writes r || writes s) && kk j))))
 
 pub conflict-is : (r s : Record) → conflict r s ≡ five r s
@@ -227,7 +233,7 @@ conflict-is r s =
     let dd = dataData r s in
     let kk = sectorsSectors r s in
     let back = disturbs-is s r
-    ∙ (λ j. one-way (reads s) (writes s) (transfers r) (crosses-swap (s .iopb) 4 (r .iopb) 4 j) ds sd (meet-swap (dataBytes s) (dataBytes r) j) (crosses-swap (s .sector) (s .count) (r .sector) (r .count) j))
+    ∙ (λ j. one-way (reads s) (writes s) (transfers r) (crosses-swap (s .iopb) 4 (r .iopb) 4 j) ds sd (meet-swap (dataBytes s) (dataBytes r) j) (overlap-swap (sectors s) (sectors r) j))
     in
     let tried = agree-at (reads r) (writes r) (reads s) (writes s) ss sd ds dd kk in
     let same = sym (or-second (reads s && writes s) _ (never-both s)) ∙ sym (or-second (reads r && writes r) _ (never-both r)) ∙ tried in

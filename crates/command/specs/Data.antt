@@ -4,6 +4,7 @@ use Prim.Native.Nat.{ℕ, _+_, _*_}
 use mathlib.Core.Bool.{Bool, not, _&&_, _||_}
 use lib.Dec.{ltb, eqb}
 use Rattle.meaning.specs.declared.Drive.{Drive}
+use Rattle.meaning.specs.Drives.{Drives}
 use Rattle.meaning.specs.declared.Record.{Record}
 use Rattle.meaning.specs.Fields.{iopbBytes}
 use Rattle.meaning.specs.Sectors.{sectorBytes}
@@ -16,13 +17,13 @@ unfoldable pub badData : ℕ → Record → Bool
 badData n r =
     ltb mostLinks (r .ranges) || (ltb n (dataHull r .high) || not (eqb (dataHull r .bytes) (sectorBytes * r .count)))
 
--- of a transfer
+-- of a transfer; d is the drive of its own unit
 unfoldable pub badMove : ℕ → Drive → Record → Bool
 unfolding badData
 badMove n d r =
-    eqb (r .count) 0 || (badData n r || (driveEnd d (r .sector) (r .count) .past || writes r && d .protected))
+    not (d .present) || (eqb (r .count) 0 || (badData n r || (driveEnd d (r .sector) (r .count) .past || writes r && d .protected)))
 
 -- of any record
-unfoldable pub badIn : ℕ → Drive → Record → Bool
+unfoldable pub badIn : ℕ → Drives → Record → Bool
 unfolding badMove stepsOf
-badIn n d r = ltb n (r .iopb + iopbBytes) || (ltb (stepsOf r) (r .taken) || transfers r && badMove n d r)
+badIn n d r = ltb n (r .iopb + iopbBytes) || (ltb (stepsOf r) (r .taken) || transfers r && badMove n (d .on (r .unit)) r)

@@ -5,7 +5,7 @@ use mathlib.Core.Bool.{Bool, false, _&&_, _||_, cond}
 use mathlib.Core.List.{List, [], _∷_}
 use lib.Dec.{ltb}
 use Rattle.meaning.specs.declared.Record.{Record}
-use Rattle.meaning.specs.Ranges.{Range, crosses, meet}
+use Rattle.meaning.specs.Ranges.{Range, sectorsOf, crosses, overlap, meet}
 use Rattle.meaning.specs.Command.{reads, writes, transfers, stepsOf}
 use Rattle.meaning.specs.Touch.{dataBytes}
 use Rattle.command.specs.declared.touch.Hull.{Hull}
@@ -66,6 +66,7 @@ noFootprint =
       sector = 0;
       sectors = 0;
       steps = 0;
+      unit = 0;
       reads = false;
       writes = false;
     }
@@ -79,6 +80,7 @@ footprintOf r =
       sector = r .sector;
       sectors = movedBy r;
       steps = stepsOf r;
+      unit = r .unit;
       reads = reads r;
       writes = writes r;
     }
@@ -97,7 +99,7 @@ abbrev pub dataMeets : Footprint → Footprint → Bool
 dataMeets f g = (f .reads || g .reads) && hullsMeet (f .hull) (g .hull)
 
 abbrev pub sectorsMeet : Footprint → Footprint → Bool
-sectorsMeet f g = (f .writes || g .writes) && crosses (f .sector) (f .sectors) (g .sector) (g .sectors)
+sectorsMeet f g = (f .writes || g .writes) && overlap (sectorsOf (f .unit) (f .sector) (f .sectors)) (sectorsOf (g .unit) (g .sector) (g .sectors))
 
 unfoldable pub footprintsMeet : Footprint → Footprint → Bool
 footprintsMeet f g =
@@ -110,4 +112,4 @@ abbrev pub dataConflicts : Record → Record → Bool
 dataConflicts r s = (reads r || reads s) && meet (movedData r) (movedData s)
 
 abbrev pub sectorsConflict : Record → Record → Bool
-sectorsConflict r s = (writes r || writes s) && crosses (r .sector) (movedBy r) (s .sector) (movedBy s)
+sectorsConflict r s = (writes r || writes s) && overlap (sectorsOf (r .unit) (r .sector) (movedBy r)) (sectorsOf (s .unit) (s .sector) (movedBy s))

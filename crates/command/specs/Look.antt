@@ -2,7 +2,7 @@
 -- picked. n is how many bytes memory has; `wanted` is the footprint of the picked command.
 use Prim.Native.Nat.{ℕ}
 use mathlib.Core.Bool.{Bool, not, _&&_}
-use Rattle.meaning.specs.declared.Drive.{Drive}
+use Rattle.meaning.specs.Drives.{Drives}
 use Rattle.meaning.specs.declared.Record.{Record}
 use Rattle.meaning.specs.Command.{finished}
 use Rattle.command.specs.declared.touch.Footprint.{Footprint}
@@ -11,7 +11,7 @@ use Rattle.command.specs.declared.sound.Looked.{Looked}
 use Rattle.command.specs.Footprints.{footprintOf, footprintsMeet}
 use Rattle.command.specs.Data.{badIn}
 
-abbrev pub judgedAs : ℕ → Drive → Record → Judged
+abbrev pub judgedAs : ℕ → Drives → Record → Judged
 judgedAs n d r = record { footprint = footprintOf r; bad = badIn n d r }
 
 -- it is earlier, it is unfinished, and their footprints meet
@@ -19,5 +19,5 @@ unfoldable pub mayBlock : Record → Footprint → Bool → Bool
 unfolding finished footprintOf footprintsMeet
 mayBlock r wanted earlier = earlier && (not (finished r) && footprintsMeet (footprintOf r) wanted)
 
-abbrev pub lookedAs : ℕ → Drive → Record → Footprint → Bool → Looked
+abbrev pub lookedAs : ℕ → Drives → Record → Footprint → Bool → Looked
 lookedAs n d r wanted earlier = record { bad = badIn n d r; near = mayBlock r wanted earlier }

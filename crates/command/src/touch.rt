@@ -11,7 +11,7 @@ ghost use mathlib.Core.List.{[], map};
 ghost use lib.ListN.{take};
 ghost use Rattle.meaning.specs.Each.{someOf};
 ghost use Rattle.meaning.specs.Sectors.{sectorBytes};
-ghost use Rattle.meaning.specs.Ranges.{bytes, overlap, meet};
+ghost use Rattle.meaning.specs.Ranges.{bytes, sectorsOf, overlap, meet};
 ghost use Rattle.meaning.specs.Links.{rangeOf};
 ghost use Rattle.meaning.specs.Touch as touch;
 ghost use Rattle.command.specs.Footprints.{nearer, mostBytes, mostAdded, hullWith, hullOf, movedBy, movedData, dataHull, noFootprint, footprintOf, hullsMeet, statusMeets, dataMeets, sectorsMeet, footprintsMeet, dataConflicts, sectorsConflict};
@@ -41,6 +41,8 @@ pub struct Footprint {
     pub sector: u32,
     pub sectors: u32,
     pub steps: u32,
+    // the unit that they are of
+    pub unit: u8,
     // whether it reads sectors, or writes them
     pub reads: bool,
     pub writes: bool,
@@ -92,6 +94,7 @@ pub fn no_footprint() -> Footprint
         sector: 0,
         sectors: 0,
         steps: 0,
+        unit: 0,
         reads: false,
         writes: false,
     }
@@ -176,6 +179,7 @@ pub(crate) fn footprint_with(r: Record, hull: Hull) -> Footprint
         sector: r.sector,
         sectors: moved(r),
         steps: crate::steps_of(r),
+        unit: r.unit,
         reads: crate::reads(r),
         writes: crate::writes(r),
     }
@@ -203,12 +207,23 @@ fn status_meets(f: Footprint, g: Footprint) -> bool
     larger(from, g.hull.low) < smaller(from + STATUS_BYTES, g.hull.high)
 }
 
+// n sectors of a unit from a on have one in common with m sectors of another unit, or the same, from b on. Sectors of different units never
+// have.
+fn sectors_cross(unit: u8, a: u32, n: u32, other: u8, b: u32, m: u32) -> bool
+    ensures { λ x. ⌜ x ≡ overlap (sectorsOf unit a n) (sectorsOf other b m) ⌝ }
+{
+    if unit != other {
+        return false;
+    }
+    ranges::crosses(a, n, b, m)
+}
+
 // The sectors of both have one in common, and one of them writes it.
 fn sectors_meet(f: Footprint, g: Footprint) -> bool
     ensures { λ b. ⌜ b ≡ sectorsMeet f g ⌝ }
 {
     if f.writes | g.writes {
-        return ranges::crosses(f.sector, f.sectors, g.sector, g.sectors);
+        return sectors_cross(f.unit, f.sector, f.sectors, g.unit, g.sector, g.sectors);
     }
     false
 }
@@ -329,7 +344,7 @@ fn sectors_conflict(r: Record, s: Record) -> bool
     ensures { λ b. ⌜ b ≡ sectorsConflict r s ⌝ }
 {
     if crate::writes(r) | crate::writes(s) {
-        return ranges::crosses(r.sector, moved(r), s.sector, moved(s));
+        return sectors_cross(r.unit, r.sector, moved(r), s.unit, s.sector, moved(s));
     }
     false
 }

@@ -1,23 +1,24 @@
--- How many steps a deck's chain can have: the bench's drive has 32 sectors, so a transfer has at most as many, and 32 commands have at
--- most 1,024 steps.
+-- How many steps a deck's chain can have: the bench's drives have 32 sectors at most, so a transfer has at most as many, and 32 commands
+-- have at most 1,024 steps.
 use mathlib.Core.Path.{_≡_, refl, sym, ap, _∙_}
-use Prim.Native.Nat.{ℕ, _*_, _≤_}
+use Prim.Native.Nat.{ℕ, zero, suc, _*_, _≤_}
 use native.Mathlib.Omega.{arith}
 use mathlib.Core.Bool.{Bool, true, false, cond}
 use mathlib.Core.List.{List, [], _∷_}
-use lib.ListN.{length, take, drop}
+use lib.ListN.{length, getD, take, drop}
 use lib.Seq.{take-append-seam, take-length}
-use lib.Dec.{ltb}
-use Rattle.meaning.specs.declared.Drive.{Drive}
+use lib.Dec.{lit≤, ltb}
+use borrow.Author.Tests.{le-ltb}
 use Rattle.meaning.specs.declared.Record.{Record}
 use Rattle.meaning.specs.Each.{someOf, sumOf}
 use Rattle.meaning.specs.Sectors.{perCylinder, sectorCount}
+use Rattle.meaning.specs.Drives.{Drives, mostUnits, noDrive, there, driveOf, drivesOf}
 use Rattle.meaning.specs.State.{State, mostCommands}
 use Rattle.meaning.specs.Walk.{Chain, refused, accepted, filled, chainAt}
 use Rattle.meaning.specs.Command.{transfers, stepsOf}
 use Rattle.meaning.specs.Pick.{badRecord, spoiled}
 use Rattle.meaning.specs.Run.{chainSteps, written}
-use Rattle.meaning.specs.Deck.{isDeck, benchDrive}
+use Rattle.meaning.specs.Deck.{isDeck, benchDrive, benchDrives}
 use Rattle.meaning.specs.Bench.{ran, runChain, benchState, outcomeOf}
 use Rattle.meaning.proofs.Rows.{or-false}
 use Rattle.meaning.proofs.Conditions.{good}
@@ -29,21 +30,30 @@ use Rattle.deck.specs.declared.Report.{Report}
 use Rattle.deck.specs.Meant.{meant, stepsIn, Reports}
 use Rattle.deck.proofs.Outcomes.{no-deck, deck-outcome}
 
--- ---- the bench's drive has 32 sectors
+-- ---- no unit of the bench has over 32 sectors: unit 0 has as many, and any other is absent
 
-drive-sectors : (b : List ℕ) → sectorCount (benchDrive b) ≡ 32
-unfolding sectorCount perCylinder benchDrive
-drive-sectors b = refl
+unit-sectors : (b : List ℕ) (u : ℕ) → sectorCount (driveOf (benchDrives b) u) ≤ 32
+unfolding sectorCount perCylinder driveOf benchDrive
+unit-sectors b zero = lit≤ tt
+unit-sectors b (suc zero) = lit≤ tt
+unit-sectors b (suc (suc zero)) = lit≤ tt
+unit-sectors b (suc (suc (suc zero))) = lit≤ tt
+unit-sectors b (suc (suc (suc (suc u)))) =
+    let v = suc (suc (suc (suc u))) in
+    let absent : sectorCount (driveOf (benchDrives b) v) ≡ 1 =
+    ap (λ (t : Bool). sectorCount (cond t (there (getD (benchDrives b .units) v noDrive)) noDrive)) (le-ltb v mostUnits (omega arith))
+    in
+    omega (arith, absent)
 
--- ---- the steps of a chain on such a drive
+-- ---- the steps of a chain on such drives
 
-module _ (d : Drive) (s : State) (few : sectorCount d ≡ 32) where
+module _ (d : Drives) (s : State) (few : (u : ℕ) → sectorCount (d .on u) ≤ 32) where
   command-steps : (r : Record) → badRecord d (s .store) r ≡ false → stepsOf r ≤ 32
   unfolding stepsOf
   command-steps r sound = go (transfers r) refl
     where
       go : (b : Bool) → transfers r ≡ b → cond b (r .count) 1 ≤ 32
-      go true t = let h = good d (s .store) r sound .sectors-in t in omega arith
+      go true t = let h = good d (s .store) r sound .sectors-in t in omega (arith, few (r .unit))
       go false t = omega arith
 
   all-steps : (rs : List Record) → someOf (badRecord d (s .store)) rs ≡ false → sumOf stepsOf rs ≤ 32 * length rs
@@ -77,7 +87,7 @@ deck-steps : (b cs : List ℕ) (n : ℕ) → outcomeOf b ≡ ran cs n → n ≤ 
 deck-steps b cs n e = go (isDeck b) refl
   where
     go : (t : Bool) → isDeck b ≡ t → n ≤ 1_024
-    go true t = outcome-steps (benchDrive b) (benchState b) (drive-sectors b) _ cs n refl (sym (deck-outcome b t) ∙ e)
+    go true t = outcome-steps (drivesOf (benchDrives b)) (benchState b) (unit-sectors b) _ cs n refl (sym (deck-outcome b t) ∙ e)
     go false t = let no = no-deck b t in let z : _≡_ {A = ℕ} 0 1 = cc in omega arith
 
 pub report-steps : (b : List ℕ) (x : Report) → Reports (outcomeOf b) x → stepsIn (x .outcome) ≤ 1_024

@@ -7,10 +7,11 @@ use mathlib.Core.List.{List, [], _∷_, _++_, append-assoc}
 use lib.ListN.{length, take, drop, replicate, length-take}
 use lib.Dec.{lit≤}
 use borrow.Author.Tests.{le-leb, lt-leb}
-use Rattle.meaning.specs.declared.Drive.{Drive}
+use Rattle.meaning.specs.declared.LentDrives.{LentDrives}
 use Rattle.meaning.specs.declared.Record.{Record}
-use Rattle.meaning.specs.Store.{lent}
-use Rattle.meaning.specs.Deck.{isDeck, benchDrive, benchMemory, benchImage}
+use Rattle.meaning.specs.Store.{lent, images}
+use Rattle.meaning.specs.Drives.{drivesOf}
+use Rattle.meaning.specs.Deck.{isDeck, benchDrives, benchMemory, benchImage}
 use Rattle.meaning.specs.Bench.{noDeck, noChain, ran, outcomeOf}
 use Rattle.meaning.specs.Bench as bench
 use Rattle.meaning.specs.Lines.{space, newline, deckWord, chainWord, stepsWord, decimal, commandLines, linesOf, printed}
@@ -67,15 +68,15 @@ module _ (b : List ℕ) where
   unfolding outcomeOf
   no-deck e = pass (isDeck b) _ _ e
 
-  pub deck-outcome : isDeck b ≡ true → outcomeOf b ≡ chainOutcome (benchDrive b) (lent (benchMemory b) benchImage)
+  pub deck-outcome : isDeck b ≡ true → outcomeOf b ≡ chainOutcome (drivesOf (benchDrives b)) (lent (benchMemory b) (images benchImage [] [] []))
   unfolding outcomeOf
   deck-outcome e = stop (isDeck b) _ _ e
 
-  pub reports-deck : (m i : List ℕ) (d : Drive) (r : Report) → isDeck b ≡ true → m ≡ benchMemory b → i ≡ benchImage → d ≡ benchDrive b
-      → Reports (chainOutcome d (lent m i)) r → Reports (outcomeOf b) r
-  reports-deck m i d r e em ei ed h =
+  pub reports-deck : (m i : List ℕ) (l : LentDrives) (r : Report) → isDeck b ≡ true → m ≡ benchMemory b → i ≡ benchImage → l ≡ benchDrives b
+      → Reports (chainOutcome (drivesOf l) (lent m (images i [] [] []))) r → Reports (outcomeOf b) r
+  reports-deck m i l r e em ei el h =
       subst (λ (o : bench.Outcome). Reports o r) (sym (deck-outcome e))
-      (subst₃ (λ (x y : List ℕ) (z : Drive). Reports (chainOutcome z (lent x y)) r) em ei ed h)
+      (subst₃ (λ (x y : List ℕ) (z : LentDrives). Reports (chainOutcome (drivesOf z) (lent x (images y [] [] []))) r) em ei el h)
 
 -- ---- printing it
 

@@ -8,12 +8,12 @@ use lib.ListN.{length, getD, take, drop, set, replicate, length-map}
 use lib.Seq.{append-snoc, set-at, take-suc, take-at, drop-at, take-append-seam, take-length, length-take-le}
 use lib.Dec.{eqb}
 use borrow.Author.Tests.{eq-eqb}
-use Rattle.meaning.specs.declared.Drive.{Drive}
 use Rattle.meaning.specs.declared.Record.{Record}
 use Rattle.meaning.specs.declared.Walked.{Walked}
 use Rattle.meaning.specs.declared.Ran as R
 use Rattle.meaning.specs.Each.{sumOf}
 use Rattle.meaning.specs.Store.{Store}
+use Rattle.meaning.specs.Drives.{Drives}
 use Rattle.meaning.specs.State.{State}
 use Rattle.meaning.specs.Walk.{Chain, refused, accepted, answered, filled, chainAt, walkReply, walkLeaves, WalkGives}
 use Rattle.meaning.specs.Command.{stepsOf}
@@ -54,7 +54,7 @@ module _ (table : List Record) (full : length table ≡ 32) where
 
 -- ---- the outcome of a chain
 
-module _ (d : Drive) (s : Store) where
+module _ (d : Drives) (s : Store) where
   abbrev before : State
   before = record { table = noRecords; store = s }
 

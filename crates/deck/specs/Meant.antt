@@ -3,9 +3,9 @@ use mathlib.Core.Path.{_≡_}
 use Prim.Native.Nat.{ℕ, _-_, _≤_}
 use mathlib.Core.List.{List, map}
 use lib.ListN.{take, drop, replicate}
-use Rattle.meaning.specs.declared.Drive.{Drive}
 use Rattle.meaning.specs.declared.Record.{Record}
 use Rattle.meaning.specs.Store.{Store}
+use Rattle.meaning.specs.Drives.{Drives}
 use Rattle.meaning.specs.State.{mostCommands}
 use Rattle.meaning.specs.Walk.{chainAt}
 use Rattle.meaning.specs.Bench.{noDeck, noChain, ran, runChain, noRecords}
@@ -25,7 +25,7 @@ abbrev pub codesOf : List Record → List ℕ
 codesOf rs = map (λ (r : Record). r .code) rs
 
 -- what comes of the chain at 0 in memory
-abbrev pub chainOutcome : Drive → Store → bench.Outcome
+abbrev pub chainOutcome : Drives → Store → bench.Outcome
 chainOutcome d s = runChain d s (chainAt d 0 (record { table = noRecords; store = s }))
 
 -- how many codes a case has

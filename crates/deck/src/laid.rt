@@ -1,5 +1,6 @@
-// A deck and what it lays: records of 32 bytes, whose IOPBs go to memory, and the drive and image that the chain runs on.
+// A deck and what it lays: records of 32 bytes, whose IOPBs go to memory, and the drives and image that the chain runs on.
 use meaning::Drive;
+use meaning::LentDrives;
 ghost use mathlib.Core.Path.{_≡_};
 ghost use Prim.Native.Nat.{_+_, _*_, _/_, _≤_};
 ghost use lib.ListN.{length, replicate};
@@ -67,7 +68,7 @@ fn protects(bytes: &[u8]) -> bool
 }
 
 // The drive of the bench: maxima 1, 1 and 7, the last head's too, and protected where byte 31 of the first record says so.
-pub fn bench_drive(bytes: &[u8]) -> Drive
+fn bench_drive(bytes: &[u8]) -> Drive
     ensures { λ r. ⌜ r ≡ deck.benchDrive (now (bytes .entry)) ⌝ }
 {
     Drive {
@@ -76,6 +77,25 @@ pub fn bench_drive(bytes: &[u8]) -> Drive
         sector: 7,
         last_sector: 7,
         protected: protects(bytes),
+        present: true,
+    }
+}
+
+// The drives of the bench: unit 0 alone, all others absent.
+pub fn bench_drives(bytes: &[u8]) -> LentDrives
+    ensures { λ r. ⌜ r ≡ deck.benchDrives (now (bytes .entry)) ⌝ }
+{
+    let first = bench_drive(bytes);
+    let none = Drive {
+        cylinder: 0,
+        head: 0,
+        sector: 0,
+        last_sector: 0,
+        protected: false,
+        present: false,
+    };
+    LentDrives {
+        units: [first, none, none, none],
     }
 }
 

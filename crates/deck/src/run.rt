@@ -3,12 +3,14 @@ use crate::Outcome;
 use crate::Report;
 use crate::laid;
 use chain::walk;
-use meaning::Drive;
+use meaning::LentDrives;
 use meaning::Record;
 ghost use mathlib.Core.Path.{_≡_};
 ghost use Prim.Native.Nat.{_≤_, _-_};
+ghost use mathlib.Core.List.{[]};
 ghost use lib.ListN.{take, drop, replicate};
-ghost use Rattle.meaning.specs.Store.{lent};
+ghost use Rattle.meaning.specs.Store.{lent, images};
+ghost use Rattle.meaning.specs.Drives.{drivesOf};
 ghost use Rattle.meaning.specs.Bench.{noRecords, outcomeOf};
 ghost use Rattle.deck.specs.Meant.{Reports, codesOf, chainOutcome};
 
@@ -28,11 +30,23 @@ fn codes_of(table: [Record; 32], commands: usize) -> [u8; 32]
     codes
 }
 
-// The chain at 0 in memory: walked, and run as written to its end.
-fn run_chain(memory: &mut [u8], image: &mut [u8], d: Drive) -> Report
-    ensures { λ r. ⌜ Reports (chainOutcome d (lent (now (memory .entry)) (now (image .entry)))) r ⌝ }
+// The chain at 0 in memory: walked, and run as written to its end. The units above 0 have empty images.
+fn run_chain(memory: &mut [u8], image: &mut [u8], l: LentDrives) -> Report
+    ensures { λ r. ⌜ Reports (chainOutcome (drivesOf l) (lent (now (memory .entry)) (images (now (image .entry)) [] [] []))) r ⌝ }
 {
-    let w = walk::walk(memory, image, d, 0, tables::no_records());
+    let mut none1 = [0u8; 0];
+    let mut none2 = [0u8; 0];
+    let mut none3 = [0u8; 0];
+    let w = walk::walk(
+        memory,
+        image,
+        &none1,
+        &none2,
+        &none3,
+        l,
+        0,
+        tables::no_records(),
+    );
     let walked = w.walked;
     let number = walked.number;
     if number != 0 {
@@ -44,7 +58,17 @@ fn run_chain(memory: &mut [u8], image: &mut [u8], d: Drive) -> Report
     let table = w.table;
     let commands = walked.commands;
     let budget = board::run::chain_steps(table, commands);
-    let run = tables::run_written(memory, image, d, table, commands, budget);
+    let run = tables::run_written(
+        memory,
+        image,
+        &mut none1,
+        &mut none2,
+        &mut none3,
+        l,
+        table,
+        commands,
+        budget,
+    );
     let ran = run.ran;
     Report {
         outcome: Outcome::Ran {
@@ -69,5 +93,5 @@ pub fn run_deck(bytes: &[u8]) -> Report
     let mut image = [0u8; laid::IMAGE_BYTES];
     laid::lay(bytes, &mut memory);
     laid::fill_image(&mut image);
-    run_chain(&mut memory, &mut image, laid::bench_drive(bytes))
+    run_chain(&mut memory, &mut image, laid::bench_drives(bytes))
 }

@@ -1,5 +1,4 @@
-// The drive: its maxima and counts, the number of a sector and the place of a number, the size that its image must have, and a look at one
-// sector.
+// A drive: its maxima and counts, the number of a sector and the place of a number, and the size that its image must have.
 // A largest number (counted from zero) and a number of things are two types, so that one is never taken for the other.
 use meaning::Count;
 use meaning::Drive;
@@ -9,12 +8,9 @@ use meaning::Placed;
 ghost use mathlib.Core.Path.{_≡_};
 ghost use Prim.Native.Nat.{_+_, _*_, _≤_, _<_};
 ghost use mathlib.Core.Bool.{true};
-ghost use mathlib.Core.List.{[]};
 ghost use lib.Dec.{ltb};
-ghost use Rattle.meaning.specs.Store.{lent};
 ghost use Rattle.meaning.specs.Sectors.{maximumOn, perCylinder, sectorCount, largestSector, sectorNumber, maximaRight, imageRight};
 ghost use Rattle.meaning.specs.Place.{placeOf, placed};
-ghost use Rattle.meaning.specs.Look.{lookNumber, lookedPart, IsPart};
 
 // The bytes of a sector, and the most that an image may have.
 pub const SECTOR_BYTES: u64 = 512;
@@ -159,30 +155,4 @@ pub fn image_right(d: Drive, bytes: u64) -> bool
     }
     let count = sectors(d).0;
     maxima_right(d) & (bytes == SECTOR_BYTES * count)
-}
-
-// The number of a look: 1 for an image of the wrong size, then 10 for no such sector, otherwise 0.
-pub fn look_number(image: &[u8], d: Drive, sector: u32) -> u8
-    ensures { λ r. ⌜ r ≡ lookNumber d sector (lent [] (now (image .entry))) ⌝ }
-{
-    if !image_right(d, image.len() as u64) {
-        return 1;
-    }
-    if above(largest(d), sector) {
-        return 10;
-    }
-    0
-}
-
-// The sector's 512 bytes of the image itself, or an empty part exactly where its number is not 0: which bytes of the lent run these are
-// is part of what is promised.
-pub fn look(image: &[u8], d: Drive, sector: u32) -> &[u8]
-    ensures { λ r. ⌜ IsPart (lookedPart d sector (lent [] (now (image .entry)))) (image .entry) r ⌝ }
-{
-    if look_number(image, d, sector) != 0 {
-        return &image[..0];
-    }
-    let start = SECTOR_BYTES as usize * sector as usize;
-    let end = start + SECTOR_BYTES as usize;
-    &image[start..end]
 }

@@ -9,7 +9,7 @@ use lib.ListN.{length, drop, length-append, drop-of-length-le, take-append-drop}
 use lib.Dec.{eqb}
 use lib.Seq.{length-take-le, drop-append-le}
 use borrow.Author.Tests.{eqb-true}
-use Rattle.meaning.specs.declared.Drive.{Drive}
+use Rattle.meaning.specs.Drives.{Drives}
 use Rattle.meaning.specs.declared.Record.{Record}
 use Rattle.meaning.specs.declared.Walked.{Walked}
 use Rattle.meaning.specs.declared.Ran.{Ran}
@@ -44,7 +44,7 @@ alone s = λ j. record { table = append-nil (s .table) j; store = s .store }
 
 -- ---- the walk
 
-module _ (d : Drive) (start : ℕ) where
+module _ (d : Drives) (start : ℕ) where
   abbrev WalksBehind : State → List Record → Type 0
   WalksBehind s rest = (w : Walked) (t′ : List Record) → WalkGives d start s w t′ → WalkGives d start (before s rest) w (t′ ++ rest)
 
@@ -70,7 +70,7 @@ module _ (d : Drive) (start : ℕ) where
 
 -- ---- a pick is a run of one
 
-one-picked : (d : Drive) (n p : ℕ) (s : State) → byPicks d n (p ∷ []) s .state ≡ picked d n p s
+one-picked : (d : Drives) (n p : ℕ) (s : State) → byPicks d n (p ∷ []) s .state ≡ picked d n p s
 unfolding byPicks picksFrom onePick picked
 one-picked d n p s = go (eqb (pickNumber d n p s) 0)
   where
@@ -78,7 +78,7 @@ one-picked d n p s = go (eqb (pickNumber d n p s) 0)
     go true = refl
     go false = refl
 
-module _ (d : Drive) (n p : ℕ) where
+module _ (d : Drives) (n p : ℕ) where
   abbrev PicksBehind : State → List Record → Type 0
   PicksBehind s rest = (k : ℕ) (s′ : State) → PickGives d n p s k s′ → PickGives d n p (before s rest) k (before s′ rest)
 
@@ -94,7 +94,7 @@ module _ (d : Drive) (n p : ℕ) where
 
 -- ---- a run that changes nothing but steps taken, and nothing of records behind
 
-module _ (d : Drive) (n : ℕ) (go : State → Tally) (kept : (s : State) → forgotten (go s .state .table) ≡ forgotten (s .table))
+module _ (d : Drives) (n : ℕ) (go : State → Tally) (kept : (s : State) → forgotten (go s .state .table) ≡ forgotten (s .table))
     (behind-it : (s : State) (rest : List Record) → mostCommands ≤ length (s .table) → n ≤ mostCommands → go (longer s rest) ≡ behind (go s) rest) where
   abbrev RunsBehind : State → List Record → Type 0
   RunsBehind s rest = (r : Ran) (s′ : State) → RunGives d n go s r s′ → RunGives d n go (before s rest) r (before s′ rest)
@@ -161,8 +161,8 @@ two-forms-agree = record {
       (by-front (RunsBehind d n (asWritten d n b) (as-written-kept d n b) (written-stay d n b)) (runs-alone d n (asWritten d n b) (as-written-kept d n b) (written-stay d n b)) (runs-behind d n (asWritten d n b) (as-written-kept d n b) (written-stay d n b)) s r s′ g);
 }
   where
-    picks-stay : (d : Drive) (n : ℕ) (ps : List ℕ) (s : State) (rest : List Record) → mostCommands ≤ length (s .table) → n ≤ mostCommands → byPicks d n ps (longer s rest) ≡ behind (byPicks d n ps s) rest
+    picks-stay : (d : Drives) (n : ℕ) (ps : List ℕ) (s : State) (rest : List Record) → mostCommands ≤ length (s .table) → n ≤ mostCommands → byPicks d n ps (longer s rest) ≡ behind (byPicks d n ps s) rest
     picks-stay d n ps s rest full h = by-picks-longer d n ps s rest full
 
-    written-stay : (d : Drive) (n b : ℕ) (s : State) (rest : List Record) → mostCommands ≤ length (s .table) → n ≤ mostCommands → asWritten d n b (longer s rest) ≡ behind (asWritten d n b s) rest
+    written-stay : (d : Drives) (n b : ℕ) (s : State) (rest : List Record) → mostCommands ≤ length (s .table) → n ≤ mostCommands → asWritten d n b (longer s rest) ≡ behind (asWritten d n b s) rest
     written-stay d n b s rest full h = as-written-longer d n b s rest (omega arith)

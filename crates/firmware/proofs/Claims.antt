@@ -8,11 +8,11 @@ use mathlib.Core.List.{List, append-nil}
 use lib.ListN.{length, take, drop}
 use lib.Dec.{eqb}
 use lib.Seq.{take-all, take-take, take-append-le, length-take-le}
-use Rattle.meaning.specs.declared.Drive.{Drive}
+use Rattle.meaning.specs.Drives.{Drives}
 use Rattle.meaning.specs.declared.Record.{Record}
-use Rattle.meaning.specs.Store.{lent}
+use Rattle.meaning.specs.Store.{Store}
 use Rattle.meaning.specs.Each.{sumOf}
-use Rattle.meaning.specs.State.{State, mostCommands, stateOf}
+use Rattle.meaning.specs.State.{State, mostCommands, stateIn}
 use Rattle.meaning.specs.Command.{stepsOf}
 use Rattle.meaning.specs.Pick.{pickNumber, picked, PickGives}
 use Rattle.meaning.specs.Run.{Tally, atStart, byPicks, asWritten, runNumber, ranTo, RunGives, chainSteps}
@@ -38,37 +38,37 @@ copied-front t h =
 -- ---- a pick
 
 -- over a table that is too short it gets 1, and changes nothing
-pub short-pick : (d : Drive) (n p : ℕ) (m i : List ℕ) (t : List Record) → length t < mostCommands → PickGives d n p (stateOf m i t) 1 (stateOf m i t)
+pub short-pick : (d : Drives) (n p : ℕ) (s : Store) (t : List Record) → length t < mostCommands → PickGives d n p (stateIn s t) 1 (stateIn s t)
 unfolding PickGives pickNumber picked
-short-pick d n p m i t h =
-    let one : pickNumber d n p (stateOf m i t) ≡ 1 = stop _ _ _ (short-sizes d m i t h) in
+short-pick d n p s t h =
+    let one : pickNumber d n p (stateIn s t) ≡ 1 = stop _ _ _ (short-sizes d s t h) in
     (sym one, sym (pass _ _ _ (ap (λ (k : ℕ). eqb k 0) one)))
 
 -- ---- a run
 
-module _ (d : Drive) (n : ℕ) (m i : List ℕ) (t : List Record) where
+module _ (d : Drives) (n : ℕ) (s : Store) (t : List Record) where
   -- over a table that is too short it gets 1, and changes nothing
-  pub short-run : (go : State → Tally) → length t < mostCommands → RunGives d n go (stateOf m i t) (refusedRun 1) (stateOf m i t)
+  pub short-run : (go : State → Tally) → length t < mostCommands → RunGives d n go (stateIn s t) (refusedRun 1) (stateIn s t)
   unfolding RunGives ranTo runNumber
   short-run go h =
-      let s = stateOf m i t in
-      let one : runNumber d n s ≡ 1 = stop _ _ _ (short-sizes d m i t h) in
+      let z = stateIn s t in
+      let one : runNumber d n z ≡ 1 = stop _ _ _ (short-sizes d s t h) in
       let off = ap (λ (k : ℕ). eqb k 0) one in
-      (ap refusedRun (sym one) ∙ sym (reply-refused d n go s off), sym (ap (λ (y : Tally). y .state) (pass (eqb (runNumber d n s) 0) (go s) (atStart s) off)))
+      (ap refusedRun (sym one) ∙ sym (reply-refused d n go z off), sym (ap (λ (y : Tally). y .state) (pass (eqb (runNumber d n z) 0) (go z) (atStart z) off)))
 
   -- one that is long enough is seen by its first 32 records
-  module _ (r : RanTaken) (m′ i′ : List ℕ) (long : mostCommands ≤ length t) where
+  module _ (r : RanTaken) (s′ : Store) (long : mostCommands ≤ length t) where
     abbrev u : List Record
     u = take mostCommands t
 
     begins-so : Begins (length t) u t
     begins-so = record { as-long = refl; front = λ _. refl }
 
-    pub picks-claim : (ps : List ℕ) → RunTakes d n (byPicks d n ps) (length t) (stateOf m i u) r (lent m′ i′) → RunGives d n (byPicks d n ps) (stateOf m i t) (r .ran) (stateOf m′ i′ (withSteps r t))
-    picks-claim ps takes = picks-face d n (length t) (stateOf m i u) t (length-take-le mostCommands t long) begins-so ps r (lent m′ i′) takes
+    pub picks-claim : (ps : List ℕ) → RunTakes d n (byPicks d n ps) (length t) (stateIn s u) r s′ → RunGives d n (byPicks d n ps) (stateIn s t) (r .ran) (stateIn s′ (withSteps r t))
+    picks-claim ps takes = picks-face d n (length t) (stateIn s u) t (length-take-le mostCommands t long) begins-so ps r s′ takes
 
-    pub written-claim : (b : ℕ) → RunTakes d n (asWritten d n b) (length t) (stateOf m i u) r (lent m′ i′) → RunGives d n (asWritten d n b) (stateOf m i t) (r .ran) (stateOf m′ i′ (withSteps r t))
-    written-claim b takes = written-face d n (length t) (stateOf m i u) t (length-take-le mostCommands t long) begins-so b r (lent m′ i′) takes
+    pub written-claim : (b : ℕ) → RunTakes d n (asWritten d n b) (length t) (stateIn s u) r s′ → RunGives d n (asWritten d n b) (stateIn s t) (r .ran) (stateIn s′ (withSteps r t))
+    written-claim b takes = written-face d n (length t) (stateIn s u) t (length-take-le mostCommands t long) begins-so b r s′ takes
 
 -- ---- the steps of a chain
 

@@ -14,7 +14,8 @@ use Rattle.meaning.specs.declared.Record.{Record}
 use Rattle.meaning.specs.State.{mostCommands}
 use Rattle.meaning.specs.Command.{noRecord}
 use Rattle.board.specs.declared.run.RanTaken.{RanTaken}
-use Rattle.board.specs.Changes.{withTaken, tableWith}
+use Rattle.meaning.specs.Step.{withTaken}
+use Rattle.board.specs.Changes.{tableWith}
 use Rattle.firmware.specs.Laid.{withSteps}
 pub use Rattle.chain.proofs.Over.{over-next, length-over}
 

@@ -3,7 +3,7 @@
 use mathlib.Core.List.{List, _++_}
 use Prim.Native.Nat.{ℕ}
 use lib.ListN.{take, drop}
-use Rattle.meaning.specs.declared.Drive.{Drive}
+use Rattle.meaning.specs.Drives.{Drives}
 use Rattle.meaning.specs.declared.Record.{Record}
 use Rattle.meaning.specs.declared.Walked.{Walked}
 use Rattle.meaning.specs.declared.Ran.{Ran}
@@ -24,7 +24,7 @@ abbrev pub before : State → List Record → State
 before s rest = record { table = s .table ++ rest; store = s .store }
 
 pub record TwoFormsAgree : Type 0 where
-  pub walks : (d : Drive) (start : ℕ) (s : State) (w : Walked) (t′ : List Record) → WalkGives d start (frontOf s) w t′ → WalkGives d start s w (t′ ++ restOf s)
-  pub picks : (d : Drive) (n p : ℕ) (s : State) (k : ℕ) (s′ : State) → PickGives d n p (frontOf s) k s′ → PickGives d n p s k (before s′ (restOf s))
-  pub runs-by-picks : (d : Drive) (n : ℕ) (ps : List ℕ) (s : State) (r : Ran) (s′ : State) → RunGives d n (byPicks d n ps) (frontOf s) r s′ → RunGives d n (byPicks d n ps) s r (before s′ (restOf s))
-  pub runs-as-written : (d : Drive) (n b : ℕ) (s : State) (r : Ran) (s′ : State) → RunGives d n (asWritten d n b) (frontOf s) r s′ → RunGives d n (asWritten d n b) s r (before s′ (restOf s))
+  pub walks : (d : Drives) (start : ℕ) (s : State) (w : Walked) (t′ : List Record) → WalkGives d start (frontOf s) w t′ → WalkGives d start s w (t′ ++ restOf s)
+  pub picks : (d : Drives) (n p : ℕ) (s : State) (k : ℕ) (s′ : State) → PickGives d n p (frontOf s) k s′ → PickGives d n p s k (before s′ (restOf s))
+  pub runs-by-picks : (d : Drives) (n : ℕ) (ps : List ℕ) (s : State) (r : Ran) (s′ : State) → RunGives d n (byPicks d n ps) (frontOf s) r s′ → RunGives d n (byPicks d n ps) s r (before s′ (restOf s))
+  pub runs-as-written : (d : Drives) (n b : ℕ) (s : State) (r : Ran) (s′ : State) → RunGives d n (asWritten d n b) (frontOf s) r s′ → RunGives d n (asWritten d n b) s r (before s′ (restOf s))

@@ -8,7 +8,7 @@ use chain::walk;
 use chain::walk::MOST_COMMANDS;
 use command::sound;
 use command::touch;
-use meaning::Drive;
+use meaning::LentDrives;
 use meaning::Ran;
 use meaning::Record;
 ghost use mathlib.Core.Path.{_≡_};
@@ -16,6 +16,7 @@ ghost use mathlib.Core.Bool.{cond};
 ghost use Prim.Native.Nat.{_≤_, _<_};
 ghost use lib.ListN.{length, getD};
 ghost use lib.Dec.{eqb};
+ghost use Rattle.meaning.specs.Drives.{drivesOf};
 ghost use Rattle.meaning.specs.State.{mostCommands};
 ghost use Rattle.meaning.specs.Command.{noRecord};
 ghost use Rattle.meaning.specs.Bench.{noRecords};
@@ -58,35 +59,47 @@ pub(crate) fn load(table: &[Record]) -> [Record; 32]
 
 // The records of the IOPBs at the first n of these addresses, made in their places of the lent table. One without a list is made apart, by
 // a store of its own: so the compiler lays its zeros there, and copies none.
-pub(crate) fn fill(memory: &[u8], d: Drive, addresses: [u32; 32], n: usize, table: &mut [Record])
+pub(crate) fn fill(
+    memory: &[u8],
+    l: LentDrives,
+    addresses: [u32; 32],
+    n: usize,
+    table: &mut [Record],
+)
     requires { ⌜ (n ≤ length (now table)) × (n ≤ mostCommands) ⌝ }
-    ensures { λ _. ⌜ now (table .exit) ≡ filledAt (now (memory .entry)) d n addresses (now (table .entry)) ⌝ }
+    ensures { λ _. ⌜ now (table .exit) ≡ filledAt (now (memory .entry)) (drivesOf l) n addresses (now (table .entry)) ⌝ }
 {
     let mut k = 0;
     while k < n {
         let at = addresses[k];
         if iopb::sgm(memory, at) == 1 {
-            table[k] = walk::record_at(memory, d, at);
+            table[k] = walk::record_at(memory, l, at);
         } else {
-            table[k] = walk::plain_record_at(memory, d, at);
+            table[k] = walk::plain_record_at(memory, l, at);
         }
         k += 1;
     }
 }
 
 // What a pick sees of a lent table, of which n records are in use. The ranges of two commands are tested only where their footprints meet.
-pub(crate) fn look_over(table: &[Record], memory: u64, d: Drive, n: usize, place: usize) -> Sight
+pub(crate) fn look_over(
+    table: &[Record],
+    memory: u64,
+    l: LentDrives,
+    n: usize,
+    place: usize,
+) -> Sight
     requires { ⌜ (mostCommands ≤ length (now table)) × ((n ≤ mostCommands) × (place < mostCommands)) ⌝ }
-    ensures { λ s. ⌜ s ≡ sightOf memory d n place (now (table .entry)) ⌝ }
+    ensures { λ s. ⌜ s ≡ sightOf memory (drivesOf l) n place (now (table .entry)) ⌝ }
 {
     let wanted = touch::footprint_of(table[place]);
     let mut bad = false;
     let mut blocked = false;
     let mut k = 0;
     while k < n {
-        let l = sound::look(memory, d, table[k], wanted, k < place);
-        bad = bad | l.bad;
-        if l.near {
+        let seen = sound::look(memory, l, table[k], wanted, k < place);
+        bad = bad | seen.bad;
+        if seen.near {
             blocked = blocked | touch::ranges_conflict(table[k], table[place]);
         }
         k += 1;

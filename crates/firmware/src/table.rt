@@ -4,13 +4,15 @@
 // out, not after: with one case left, of exactly 32 records, the compiler makes one copy and fills nothing.
 use crate::laid;
 use chain::walk::MOST_COMMANDS;
-use meaning::Drive;
+use meaning::LentDrives;
 use meaning::Ran;
 use meaning::Record;
 use meaning::Walked;
 ghost use mathlib.Core.Path.{_≡_};
 ghost use Prim.Native.Nat.{min};
-ghost use Rattle.meaning.specs.State.{mostCommands, stateOf};
+ghost use Rattle.meaning.specs.Store.{lent, images};
+ghost use Rattle.meaning.specs.Drives.{drivesOf};
+ghost use Rattle.meaning.specs.State.{mostCommands, stateIn};
 ghost use Rattle.meaning.specs.Walk.{WalkGives};
 ghost use Rattle.meaning.specs.Pick.{PickGives};
 ghost use Rattle.meaning.specs.Run.{chainSteps, byPicks, asWritten, RunGives};
@@ -19,16 +21,28 @@ ghost use Rattle.meaning.specs.Run.{chainSteps, byPicks, asWritten, RunGives};
 #[no_mangle]
 pub extern "C" fn rosadenca_walk(
     memory: &[u8],
-    image: &[u8],
-    drive: Drive,
+    image0: &[u8],
+    image1: &[u8],
+    image2: &[u8],
+    image3: &[u8],
+    drives: LentDrives,
     start: u32,
     table: &mut [Record],
 ) -> Walked
-    ensures { λ w. ⌜ WalkGives drive start (stateOf (now (memory .entry)) (now (image .entry)) (now (table .entry))) w (now (table .exit)) ⌝ }
+    ensures { λ w. ⌜ WalkGives (drivesOf drives) start (stateIn (lent (now (memory .entry)) (images (now (image0 .entry)) (now (image1 .entry)) (now (image2 .entry)) (now (image3 .entry)))) (now (table .entry))) w (now (table .exit)) ⌝ }
 {
-    let f = chain::walk::find(memory, image, drive, start, table.len());
+    let f = chain::walk::find(
+        memory,
+        image0,
+        image1,
+        image2,
+        image3,
+        drives,
+        start,
+        table.len(),
+    );
     let walked = f.walked;
-    laid::fill(memory, drive, f.addresses, walked.commands, table);
+    laid::fill(memory, drives, f.addresses, walked.commands, table);
     walked
 }
 
@@ -36,13 +50,16 @@ pub extern "C" fn rosadenca_walk(
 #[no_mangle]
 pub extern "C" fn rosadenca_pick<'a>(
     memory: &'a mut [u8],
-    image: &'a mut [u8],
-    drive: Drive,
+    image0: &'a mut [u8],
+    image1: &'a mut [u8],
+    image2: &'a mut [u8],
+    image3: &'a mut [u8],
+    drives: LentDrives,
     table: &'a mut [Record],
     commands: usize,
     place: usize,
 ) -> u8
-    ensures { λ n. ⌜ PickGives drive commands place (stateOf (now (memory .entry)) (now (image .entry)) (now (table .entry))) n (stateOf (now (memory .exit)) (now (image .exit)) (now (table .exit))) ⌝ }
+    ensures { λ n. ⌜ PickGives (drivesOf drives) commands place (stateIn (lent (now (memory .entry)) (images (now (image0 .entry)) (now (image1 .entry)) (now (image2 .entry)) (now (image3 .entry)))) (now (table .entry))) n (stateIn (lent (now (memory .exit)) (images (now (image0 .exit)) (now (image1 .exit)) (now (image2 .exit)) (now (image3 .exit)))) (now (table .exit))) ⌝ }
 {
     let length = table.len();
     if length < MOST_COMMANDS {
@@ -51,9 +68,11 @@ pub extern "C" fn rosadenca_pick<'a>(
     let size = memory.len() as u64;
     let at = board::pick::place_seen(place);
     let used = board::run::in_table(commands);
-    let seen = laid::look_over(table, size, drive, used, at);
+    let seen = laid::look_over(table, size, drives, used, at);
     let r = laid::record_at(table, at);
-    let p = board::pick::pick_seen(memory, image, drive, r, seen, commands, place);
+    let p = board::pick::pick_seen(
+        memory, image0, image1, image2, image3, drives, r, seen, commands, place,
+    );
     laid::put_taken(table, place, p)
 }
 
@@ -61,20 +80,25 @@ pub extern "C" fn rosadenca_pick<'a>(
 #[no_mangle]
 pub extern "C" fn rosadenca_run_picks<'a>(
     memory: &'a mut [u8],
-    image: &'a mut [u8],
-    drive: Drive,
+    image0: &'a mut [u8],
+    image1: &'a mut [u8],
+    image2: &'a mut [u8],
+    image3: &'a mut [u8],
+    drives: LentDrives,
     table: &'a mut [Record],
     commands: usize,
     picks: &'a [u8],
 ) -> Ran
-    ensures { λ r. ⌜ RunGives drive commands (byPicks drive commands (now (picks .entry))) (stateOf (now (memory .entry)) (now (image .entry)) (now (table .entry))) r (stateOf (now (memory .exit)) (now (image .exit)) (now (table .exit))) ⌝ }
+    ensures { λ r. ⌜ RunGives (drivesOf drives) commands (byPicks (drivesOf drives) commands (now (picks .entry))) (stateIn (lent (now (memory .entry)) (images (now (image0 .entry)) (now (image1 .entry)) (now (image2 .entry)) (now (image3 .entry)))) (now (table .entry))) r (stateIn (lent (now (memory .exit)) (images (now (image0 .exit)) (now (image1 .exit)) (now (image2 .exit)) (now (image3 .exit)))) (now (table .exit))) ⌝ }
 {
     let length = table.len();
     if length < MOST_COMMANDS {
         return board::run::refused(1);
     }
     let t = laid::load_first(table, MOST_COMMANDS);
-    let r = board::run::picks_taken(memory, image, drive, t, length, commands, picks);
+    let r = board::run::picks_taken(
+        memory, image0, image1, image2, image3, drives, t, length, commands, picks,
+    );
     laid::put_steps(table, r)
 }
 
@@ -82,20 +106,25 @@ pub extern "C" fn rosadenca_run_picks<'a>(
 #[no_mangle]
 pub extern "C" fn rosadenca_run_written<'a>(
     memory: &'a mut [u8],
-    image: &'a mut [u8],
-    drive: Drive,
+    image0: &'a mut [u8],
+    image1: &'a mut [u8],
+    image2: &'a mut [u8],
+    image3: &'a mut [u8],
+    drives: LentDrives,
     table: &'a mut [Record],
     commands: usize,
     budget: u64,
 ) -> Ran
-    ensures { λ r. ⌜ RunGives drive commands (asWritten drive commands budget) (stateOf (now (memory .entry)) (now (image .entry)) (now (table .entry))) r (stateOf (now (memory .exit)) (now (image .exit)) (now (table .exit))) ⌝ }
+    ensures { λ r. ⌜ RunGives (drivesOf drives) commands (asWritten (drivesOf drives) commands budget) (stateIn (lent (now (memory .entry)) (images (now (image0 .entry)) (now (image1 .entry)) (now (image2 .entry)) (now (image3 .entry)))) (now (table .entry))) r (stateIn (lent (now (memory .exit)) (images (now (image0 .exit)) (now (image1 .exit)) (now (image2 .exit)) (now (image3 .exit)))) (now (table .exit))) ⌝ }
 {
     let length = table.len();
     if length < MOST_COMMANDS {
         return board::run::refused(1);
     }
     let t = laid::load_first(table, MOST_COMMANDS);
-    let r = board::run::written_taken(memory, image, drive, t, length, commands, budget);
+    let r = board::run::written_taken(
+        memory, image0, image1, image2, image3, drives, t, length, commands, budget,
+    );
     laid::put_steps(table, r)
 }
 

@@ -9,7 +9,7 @@ use mathlib.Core.List.{List, [], _∷_}
 use lib.ListN.{length, getD, set, take}
 use lib.Dec.{eqb}
 use borrow.Author.Tests.{ne-eqb}
-use Rattle.meaning.specs.declared.Drive.{Drive}
+use Rattle.meaning.specs.Drives.{Drives}
 use Rattle.meaning.specs.declared.Record.{Record}
 use Rattle.meaning.specs.Each.{everyOf, sumOf}
 use Rattle.meaning.specs.Store.{Store}
@@ -44,7 +44,7 @@ sum-set f (x ∷ t) zero p y z h l e = absurd (not-suc-le-zero h)
 sum-set f (x ∷ t) (suc n) zero y z h l e = omega arith
 sum-set f (x ∷ t) (suc n) (suc p) y z h l e = omega (arith, sum-set f t n p y z (le-of-suc-le-suc h) (le-of-suc-le-suc l) e)
 
-pub left-step : (d : Drive) (n p : ℕ) (s : State) → n ≤ length (s .table) → Free (s .table) n p
+pub left-step : (d : Drives) (n p : ℕ) (s : State) → n ≤ length (s .table) → Free (s .table) n p
     → suc (stepsLeft (stepAt d p s .table) n) ≡ stepsLeft (s .table) n
 unfolding stepAt stepsLeft
 left-step d n p s l f =
@@ -63,14 +63,14 @@ remaining-advanced (suc k) r h =
     omega (arith, remaining-advanced k (stepped r) (omega arith))
 
 -- the steps that it reports, and those that it leaves
-pub of-written : (d : Drive) (b : ℕ) (t : List Record) (s : Store) → let w = written d b t s in w .steps + sumOf remaining (w .state .table) ≡ sumOf remaining t
+pub of-written : (d : Drives) (b : ℕ) (t : List Record) (s : Store) → let w = written d b t s in w .steps + sumOf remaining (w .state .table) ≡ sumOf remaining t
 unfolding written
 of-written d b [] s = refl
 of-written d b (r ∷ rs) s =
     let k = min b (remaining r) in
     omega (arith, remaining-advanced k r (min-le-right b (remaining r)), of-written d (b - k) rs (stepsDone d k r s))
 
-pub smaller : (d : Drive) (b : ℕ) (t : List Record) (s : Store) → written d b t s .steps ≡ min b (sumOf remaining t)
+pub smaller : (d : Drives) (b : ℕ) (t : List Record) (s : Store) → written d b t s .steps ≡ min b (sumOf remaining t)
 unfolding written
 smaller d b [] s = omega arith
 smaller d b (r ∷ rs) s =

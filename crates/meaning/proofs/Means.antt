@@ -1,17 +1,18 @@
 -- A test and the proposition that it tests: `Means P b` says that b is true where P holds and false where it fails. One law for
 -- each way that a test is put together, so that a condition of the rules is read off from its test part by part.
-use mathlib.Core.Path.{_≡_, refl, sym, _∙_}
+use mathlib.Core.Path.{_≡_, refl, sym, subst, _∙_}
 use mathlib.Core.Logic.{_↔_, _≢_, _⊎_, inl, inr}
 use Prim.Native.Nat.{ℕ, zero, suc, _≤_, _<_, suc-le-suc}
 use native.Mathlib.Nat.{not-suc-le-zero, le-of-suc-le-suc}
 use mathlib.Core.Bool.{Bool, true, false, not, _&&_, _||_, or-assoc, true≢false, false≢true}
-use mathlib.Core.List.{List, [], _∷_}
+use mathlib.Core.List.{List, [], _∷_, _++_}
 use native.Mathlib.Omega.{arith}
 use lib.ListN.{length, getD, take}
 use lib.Dec.{ltb, leb, eqb}
 use borrow.Author.Tests.{ltb-true, ltb-false, leb-true, leb-false, eqb-true, eqb-false}
-use Rattle.meaning.specs.Each.{someOf}
+use Rattle.meaning.specs.Each.{someOf, upTo}
 use Rattle.meaning.specs.Conditions.{SomeOf}
+use Rattle.meaning.proofs.Tests.{some-append, or-no}
 
 pub data Means (P : Type 0) : Bool → Type 0 where
   holds : P → Means P true
@@ -124,3 +125,23 @@ module _ {A : Type 0} {P : A → Type 0} {p : A → Bool} (means : (x : A) → M
   means-some zero l = fails (λ s. not-suc-le-zero (s .1))
   means-some (suc n) [] = fails (λ s. not-suc-le-zero (s .2))
   means-some (suc n) (x ∷ l) = means-iff (some-of-more n x l) (means-or (means x) (means-some n l))
+
+-- one of the numbers below n
+module _ {P : ℕ → Type 0} {p : ℕ → Bool} (means : (k : ℕ) → Means (P k) (p k)) where
+  abbrev Below : ℕ → Type 0
+  Below n = (k : ℕ) × (k < n) × P k
+
+  below-more : (n : ℕ) → (Below n ⊎ P n) ↔ Below (suc n)
+  below-more n = (there, λ b. at (b .0) (means-eq (b .0) n) (b .1) (b .2))
+    where
+      there : Below n ⊎ P n → Below (suc n)
+      there (inl b) = (b .0, (let l = b .1 in omega arith), b .2)
+      there (inr h) = (n, omega arith, h)
+
+      at : (k : ℕ) {x : Bool} → Means (k ≡ n) x → k < suc n → P k → Below n ⊎ P n
+      at k (holds e) l h = inr (subst P e h)
+      at k (fails o) l h = inl (k, omega arith, h)
+
+  pub means-below : (n : ℕ) → Means (Below n) (someOf p (upTo n))
+  means-below zero = fails (λ b. not-suc-le-zero (b .1))
+  means-below (suc n) = rw (some-append p (upTo n) (n ∷ []), or-no (p n)) (means-iff (below-more n) (means-or (means-below n) (means n)))

@@ -8,7 +8,7 @@ use mathlib.Core.List.{List, [], _∷_}
 use lib.ListN.{length, getD, take}
 use lib.Dec.{ltb, eqb}
 use borrow.Author.Tests.{ltb-false, le-ltb, leb-false, lt-leb, eq-eqb}
-use Rattle.meaning.specs.declared.Drive.{Drive}
+use Rattle.meaning.specs.Drives.{Drives}
 use Rattle.meaning.specs.declared.Record.{Record}
 use Rattle.meaning.specs.First.{Row, firstIn, firstOf}
 use Rattle.meaning.specs.Each.{someOf, everyOf}
@@ -85,7 +85,7 @@ free-place t n p f = off-last (placeRows t n p) 0 (lt-leb n p (f .inUse), (f .un
 
 -- ---- 1 is not given
 
-module _ (d : Drive) (s : State) where
+module _ (d : Drives) (s : State) where
   abbrev short : Bool
   short = ltb (length (s .table)) mostCommands
 
@@ -104,11 +104,11 @@ module _ (d : Drive) (s : State) where
 
 -- ---- 1 and 9 are not given
 
-pub record Passed (d : Drive) (n : ℕ) (s : State) : Type 0 where
+pub record Passed (d : Drives) (n : ℕ) (s : State) : Type 0 where
   pub sizes : sizesWrong d s ≡ false
   pub sound : spoiled d n s ≡ false
 
-module _ (d : Drive) (n : ℕ) (s : State) where
+module _ (d : Drives) (n : ℕ) (s : State) where
   rows-passed : (z : ℕ) → firstOf (runRows d n s) z ≡ 0 → Passed d n s
   rows-passed z e =
       let q = rows-off (runRows d n s) z e refl in

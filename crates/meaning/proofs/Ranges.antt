@@ -71,6 +71,9 @@ means-meet xs ys =
     swapped (means-in-some (InSome ys) (λ r. someOf (overlap r) ys)
     (λ r. swapped (means-in-some (LiesIn r) (overlap r) (means-overlap r) ys)) xs)
 
--- two tests of one proposition are the same, so it does not matter which list comes first
+-- two tests of one proposition are the same, so it does not matter which range, or which list, comes first
+pub overlap-swap : (r s : Range) → overlap r s ≡ overlap s r
+overlap-swap r s = same-test (means-overlap r s) (swapped (means-overlap s r))
+
 pub meet-swap : (xs ys : List Range) → meet xs ys ≡ meet ys xs
 meet-swap xs ys = same-test (means-meet xs ys) (swapped (means-meet ys xs))

@@ -17,6 +17,7 @@ use Rattle.meaning.specs.Each.{someOf, sumOf}
 use Rattle.meaning.specs.Store.{memory, Store}
 use Rattle.meaning.specs.State.{State, mostCommands}
 use Rattle.meaning.specs.Sectors.{sectorCount}
+use Rattle.meaning.specs.Drives.{Drives}
 use Rattle.meaning.specs.Sizes.{sizesWrong}
 use Rattle.meaning.specs.Fields.{allIn}
 use Rattle.meaning.specs.declared.Link.{Link}
@@ -70,12 +71,16 @@ read-all m c d e h =
     rw (early-zero c d (length m) (linksIn m c) e h) (none-outside m c (off .0) (listOutside c (length m)) refl)
 
 -- so it is as number 9 asks
-module _ (d : Drive) (s : Store) (c : Copied) (a : ℕ) where
+module _ (d : Drives) (s : Store) (c : Copied) (a : ℕ) where
+  -- the drive of its own unit
+  abbrev own : Drive
+  own = d .on (c .unit)
+
   abbrev filling : Record
-  filling = recordOf c a d (s memory)
+  filling = recordOf c a own (s memory)
 
   abbrev code-of : ℕ
-  code-of = codeOf c d (length (s memory)) (linksIn (s memory) c)
+  code-of = codeOf c own (length (s memory)) (linksIn (s memory) c)
 
   code-good : code-of ≡ 0 → eqb (commandIn (c .byte0)) nop ≡ false → badTransfer d s filling ≡ false
   unfolding badTransfer recordOf
@@ -83,12 +88,13 @@ module _ (d : Drive) (s : Store) (c : Copied) (a : ℕ) where
       let m = s memory in
       let n = length m in
       let xs = linksIn m c in
-      let last = data-off c d n xs e h in
-      let none : eqb (c .count) 0 ≡ false = row c d n xs e h {r = eqb (c .count) 0 ↝ 0x13} (search (here, there) depth 12) in
-      let drive : ltb (sectorCount d) (firstSector d c + c .count) ≡ false = row c d n xs e h {r = ltb (sectorCount d) (firstSector d c + c .count) ↝ 0x10 telling fittedOnDrive c d} (search (here, there) depth 12) in
-      let unprotected : (eqb (commandIn (c .byte0)) write && d .protected) ≡ false = row c d n xs e h {r = (eqb (commandIn (c .byte0)) write && d .protected) ↝ 0x90} (search (here, there) depth 12) in
-      let read = read-all m c d e h in
-      rw (read, links-kept xs, in-listed m c, none, le-ltb mostLinks (length xs) (in-few m c), last .1 .1 .1 .0, last .1 .0, drive, e) unprotected
+      let last = data-off c own n xs e h in
+      let here-it-is : not (own .present) ≡ false = row c own n xs e h {r = not (own .present) ↝ 0x42} here in
+      let none : eqb (c .count) 0 ≡ false = row c own n xs e h {r = eqb (c .count) 0 ↝ 0x13} (search (here, there) depth 12) in
+      let drive : ltb (sectorCount own) (firstSector own c + c .count) ≡ false = row c own n xs e h {r = ltb (sectorCount own) (firstSector own c + c .count) ↝ 0x10 telling fittedOnDrive c own} (search (here, there) depth 12) in
+      let unprotected : (eqb (commandIn (c .byte0)) write && own .protected) ≡ false = row c own n xs e h {r = (eqb (commandIn (c .byte0)) write && own .protected) ↝ 0x90} (search (here, there) depth 12) in
+      let read = read-all m c own e h in
+      rw (here-it-is, read, links-kept xs, in-listed m c, none, le-ltb mostLinks (length xs) (in-few m c), last .1 .1 .1 .0, last .1 .0, drive, e) unprotected
 
   transfer-good : (transfers filling && badTransfer d s filling) ≡ false
   unfolding recordOf
@@ -100,36 +106,36 @@ module _ (d : Drive) (s : Store) (c : Copied) (a : ℕ) where
       go true false e h = rw (code-good (eqb-true code-of 0 e) h) (and-no (transfers filling))
 
 -- a record that number 9 lets pass, and of which no step is taken
-pub record Fresh (d : Drive) (s : Store) (r : Record) : Type 0 where
+pub record Fresh (d : Drives) (s : Store) (r : Record) : Type 0 where
   pub sound : badRecord d s r ≡ false
   pub untaken : r .taken ≡ 0
 
-filled-fresh : (d : Drive) (s : Store) (c : Copied) (a : ℕ) → allIn (s memory) a ≡ true → Fresh d s (recordOf c a d (s memory))
+filled-fresh : (d : Drives) (s : Store) (c : Copied) (a : ℕ) → allIn (s memory) a ≡ true → Fresh d s (recordOf c a (d .on (c .unit)) (s memory))
 unfolding badRecord recordOf
 filled-fresh d s c a h =
-    let r = recordOf c a d (s memory) in
+    let r = recordOf c a (d .on (c .unit)) (s memory) in
     record { sound = rw (h, le-ltb (stepsOf r) 0 zero-le) (transfer-good d s c a); untaken = refl }
 
 -- ---- along the chain
 
 -- what a chain comes to: a number other than 0, or at most 32 fresh records
-pub Fine : Drive → State → Chain → Type 0
+pub Fine : Drives → State → Chain → Type 0
 Fine d s (refused k) = 0 < k
 Fine d s (accepted rs) = (sizesWrong d s ≡ false) × (length rs ≤ mostCommands) × All (Fresh d (s .store)) rs
 
 -- whichever way a test goes
-fine-cond : (d : Drive) (s : State) (b : Bool) (x y : Chain) → (b ≡ true → Fine d s x) → (b ≡ false → Fine d s y) → Fine d s (cond b x y)
+fine-cond : (d : Drives) (s : State) (b : Bool) (x y : Chain) → (b ≡ true → Fine d s x) → (b ≡ false → Fine d s y) → Fine d s (cond b x y)
 fine-cond d s true x y f g = f refl
 fine-cond d s false x y f g = g refl
 
-follow-fine : (more : ℕ) (d : Drive) (s : State) (earlier : List Record) (a : ℕ) → sizesWrong d s ≡ false
+follow-fine : (more : ℕ) (d : Drives) (s : State) (earlier : List Record) (a : ℕ) → sizesWrong d s ≡ false
     → length earlier + more ≤ mostCommands → All (Fresh d (s .store)) earlier → Fine d s (follow more (s .store memory) d earlier a)
 unfolding follow Fine
 follow-fine zero d s earlier a z l h = lit< tt
 follow-fine (suc more) d s earlier a z l h =
     let m = s .store memory in
     let c = copiedAt m a in
-    let r = recordOf c a d m in
+    let r = recordOf c a (d .on (c .unit)) m in
     let rs = earlier ++ r ∷ [] in
     let longer : length rs ≡ length earlier + 1 = length-append earlier (r ∷ []) in
     let all : allIn m a ≡ true → All (Fresh d (s .store)) rs = λ e. all-append (Fresh d (s .store)) earlier (r ∷ []) h (filled-fresh d (s .store) c a e, tt) in
@@ -139,7 +145,7 @@ follow-fine (suc more) d s earlier a z l h =
     fine-cond d s (goesOn c) _ _ (λ _. follow-fine more d s rs (c .next) z (omega arith) fresh) λ _.
     (z, omega arith, fresh)
 
-pub chain-fine : (d : Drive) (start : ℕ) (s : State) → Fine d s (chainAt d start s)
+pub chain-fine : (d : Drives) (start : ℕ) (s : State) → Fine d s (chainAt d start s)
 unfolding chainAt Fine
 chain-fine d start s =
     fine-cond d s (sizesWrong d s) _ _ (λ _. lit< tt) λ e.
@@ -147,30 +153,30 @@ chain-fine d start s =
     follow-fine mostCommands d s [] start e (lit≤ tt) tt
 
 -- a refusal is never number 0, and there are at most 32 commands
-pub refused-number : (d : Drive) (start : ℕ) (s : State) (k : ℕ) → chainAt d start s ≡ refused k → 0 < k
+pub refused-number : (d : Drives) (start : ℕ) (s : State) (k : ℕ) → chainAt d start s ≡ refused k → 0 < k
 unfolding Fine
 refused-number d start s k e = subst (Fine d s) e (chain-fine d start s)
 
-pub chain-most : (d : Drive) (start : ℕ) (s : State) (rs : List Record) → chainAt d start s ≡ accepted rs → length rs ≤ mostCommands
+pub chain-most : (d : Drives) (start : ℕ) (s : State) (rs : List Record) → chainAt d start s ≡ accepted rs → length rs ≤ mostCommands
 unfolding Fine
 chain-most d start s rs e = subst (Fine d s) e (chain-fine d start s) .1
 
 -- ---- what the walk gives
 
-fresh-none : (d : Drive) (s : Store) (rs : List Record) → All (Fresh d s) rs → someOf (badRecord d s) rs ≡ false
+fresh-none : (d : Drives) (s : Store) (rs : List Record) → All (Fresh d s) rs → someOf (badRecord d s) rs ≡ false
 fresh-none d s [] h = refl
 fresh-none d s (r ∷ rs) h = rw (h .0 .sound) (fresh-none d s rs (h .1))
 
-fresh-remaining : (d : Drive) (s : Store) (r : Record) → Fresh d s r → remaining r ≡ stepsOf r
+fresh-remaining : (d : Drives) (s : Store) (r : Record) → Fresh d s r → remaining r ≡ stepsOf r
 unfolding remaining
 fresh-remaining d s r h = omega (arith, h .untaken)
 
-all-remain : (d : Drive) (s : Store) (rs : List Record) → All (Fresh d s) rs → map remaining rs ≡ map stepsOf rs
+all-remain : (d : Drives) (s : Store) (rs : List Record) → All (Fresh d s) rs → map remaining rs ≡ map stepsOf rs
 all-remain d s [] h = refl
 all-remain d s (r ∷ rs) h = ap₂ _∷_ (fresh-remaining d s r (h .0)) (all-remain d s rs (h .1))
 
 -- a chain's commands in a table t
-pub record Sound (d : Drive) (s : Store) (t : List Record) (n : ℕ) : Type 0 where
+pub record Sound (d : Drives) (s : Store) (t : List Record) (n : ℕ) : Type 0 where
   -- 1 and 9 are not given
   pub passed : Passed d n (record { table = t; store = s })
   -- of each command all its steps remain, so the steps that remain are the chain's
@@ -180,7 +186,7 @@ pub table-length : (rs t : List Record) → length rs ≤ length t → length (r
 table-length rs t h = simp (length-append, length-drop) (omega arith)
 
 -- an accepted chain, in the table that it was walked into
-pub chain-is-sound : (d : Drive) (start : ℕ) (s : State) (rs : List Record) → chainAt d start s ≡ accepted rs
+pub chain-is-sound : (d : Drives) (start : ℕ) (s : State) (rs : List Record) → chainAt d start s ≡ accepted rs
     → Sound d (s .store) (filled (accepted rs) (s .table)) (length rs)
 unfolding Fine sizesWrong spoiled chainSteps stepsLeft
 chain-is-sound d start s rs e =

@@ -9,7 +9,6 @@ use Rattle.meaning.specs.First.{Row, firstOf, toldOf, _↝_, _telling_}
 use Rattle.meaning.specs.Each.{someOf}
 use Rattle.meaning.specs.declared.Drive.{Drive}
 use Rattle.meaning.specs.declared.Link.{Link}
-use Rattle.meaning.specs.Store.{theUnit}
 use Rattle.meaning.specs.Ranges.{Range, bytes}
 use Rattle.meaning.specs.Links.{linkBytes, mostLinks, linksAt, rangesOf, bytesIn}
 use Rattle.meaning.specs.Sectors.{sectorBytes, maximumOn, sectorNumber}
@@ -98,11 +97,11 @@ commandRows c =
     ∷ eqb (commandIn (c .byte0)) nop ↝ 0x00
     ∷ []
 
--- What only a transfer is asked, row by row, before its data is looked at.
+-- What only a transfer is asked, row by row, before its data is looked at. Here and below, d is the drive of the command's own unit.
 abbrev pub transferRows : Copied → Drive → List Row
 transferRows c d =
-    -- Code 4: a unit that is not there, so a drive that is not ready
-    not (eqb (c .unit) theUnit) ↝ 0x42
+    -- Code 4: a unit that is absent, so a drive that is not ready
+    not (d .present) ↝ 0x42
     -- Code 5: no sector is asked for
     ∷ eqb (c .count) 0 ↝ 0x13
     -- Code 6 to 8: cylinder, then head, then sector above its maximum, the sector above that of its own head

@@ -3,15 +3,16 @@
 use mathlib.Core.Path.{_≡_}
 use mathlib.Core.Logic.{_↔_, _≢_, _⊎_}
 use Prim.Native.Nat.{ℕ, _+_, _*_, _%_, _≤_, _<_}
-use mathlib.Core.Bool.{true}
+use mathlib.Core.Bool.{true, false}
 use mathlib.Core.List.{List, [], _∷_}
 use lib.ListN.{length, getD}
 use Rattle.meaning.specs.declared.Drive.{Drive}
 use Rattle.meaning.specs.declared.Record.{Record}
-use Rattle.meaning.specs.Store.{Space, memory, Store, theDisk}
+use Rattle.meaning.specs.Store.{Space, memory, disk, Store}
 use Rattle.meaning.specs.Ranges.{Range, overlap}
 use Rattle.meaning.specs.State.{State, mostCommands}
 use Rattle.meaning.specs.Sectors.{sectorBytes, imageLimit, sectorCount}
+use Rattle.meaning.specs.Drives.{Drives, mostUnits}
 use Rattle.meaning.specs.Fields.{iopbBytes}
 use Rattle.meaning.specs.Sizes.{memoryLimit}
 use Rattle.meaning.specs.Code.{commandIn, read, write}
@@ -42,16 +43,27 @@ Shares a b = (x : ℕ) × Within x a iopbBytes × Within x b iopbBytes
 abbrev pub MaximaWrong : Drive → Type 0
 MaximaWrong d = d .sector < d .«last_sector»
 
--- such a drive, or an image over its limit, or not of the drive's size
-abbrev pub ImageWrong : Drive → Store → Type 0
-ImageWrong d s = MaximaWrong d ⊎ (imageLimit < length (s theDisk)) ⊎ (length (s theDisk) ≢ sectorBytes * sectorCount d)
+-- such a drive, or an image of n bytes over its limit, or not of the drive's size
+abbrev pub ImageWrong : Drive → ℕ → Type 0
+ImageWrong d n = MaximaWrong d ⊎ (imageLimit < n) ⊎ (n ≢ sectorBytes * sectorCount d)
 
--- memory over its limit, or such an image
-abbrev pub StoreWrong : Drive → Store → Type 0
-StoreWrong d s = (memoryLimit < length (s memory)) ⊎ ImageWrong d s
+-- a unit is there, or absent
+abbrev pub Present : Drives → ℕ → Type 0
+Present d u = d .on u .present ≡ true
+
+abbrev pub Absent : Drives → ℕ → Type 0
+Absent d u = d .on u .present ≡ false
+
+-- one of the four units is there, with such a drive or image
+abbrev pub ImagesWrong : Drives → Store → Type 0
+ImagesWrong d s = (u : ℕ) × (u < mostUnits) × (Present d u × ImageWrong (d .on u) (length (s (disk u))))
+
+-- memory over its limit, or such a unit
+abbrev pub StoreWrong : Drives → Store → Type 0
+StoreWrong d s = (memoryLimit < length (s memory)) ⊎ ImagesWrong d s
 
 -- or a table shorter than 32
-abbrev pub SizesWrong : Drive → State → Type 0
+abbrev pub SizesWrong : Drives → State → Type 0
 SizesWrong d s = StoreWrong d (s .store) ⊎ (length (s .table) < mostCommands)
 
 -- a Read Data with code 00, a Write Data with code 00
@@ -74,24 +86,25 @@ SomeOf P (x ∷ xs) = P x ⊎ SomeOf P xs
 abbrev pub Outside : ℕ → Range → Type 0
 Outside n x = n < x .from + x .many
 
--- count zero, more ranges than a record can hold, a range of its data outside memory, ranges that do not add up to its sectors, sectors
--- outside the drive, or writing to a protected drive
-abbrev pub BadTransfer : Drive → Store → Record → Type 0
+-- an absent unit, count zero, more ranges than a record can hold, a range of its data outside memory, ranges that do not add up to its
+-- sectors, sectors outside the drive of its own unit, or writing to a protected one
+abbrev pub BadTransfer : Drives → Store → Record → Type 0
 BadTransfer d s r =
-    (r .count ≡ 0)
+    Absent d (r .unit)
+    ⊎ (r .count ≡ 0)
     ⊎ (mostLinks < r .ranges)
     ⊎ SomeOf (Outside (length (s memory))) (dataBytes r)
     ⊎ (bytesIn (dataBytes r) ≢ sectorBytes * r .count)
-    ⊎ (sectorCount d < r .sector + r .count)
-    ⊎ (Writes r × (d .protected ≡ true))
+    ⊎ (sectorCount (d .on (r .unit)) < r .sector + r .count)
+    ⊎ (Writes r × (d .on (r .unit) .protected ≡ true))
 
 -- its IOPB not all in memory, or more steps taken than it has, or a transfer of that kind
-abbrev pub BadRecord : Drive → Store → Record → Type 0
+abbrev pub BadRecord : Drives → Store → Record → Type 0
 BadRecord d s r =
     (length (s memory) < r .iopb + iopbBytes) ⊎ (stepsOf r < r .taken) ⊎ ((Reads r ⊎ Writes r) × BadTransfer d s r)
 
 -- over 32 commands, or a record in use is such a one
-abbrev pub Spoiled : Drive → ℕ → State → Type 0
+abbrev pub Spoiled : Drives → ℕ → State → Type 0
 Spoiled d n s = (mostCommands < n) ⊎ ((k : ℕ) × (k < n) × (k < length (s .table)) × BadRecord d (s .store) (getD (s .table) k noRecord))
 
 -- What a command reads, and what it writes, at x of a space: byte x of memory, or sector x of a disk.
@@ -102,7 +115,7 @@ abbrev pub InStatus : Record → Space → ℕ → Type 0
 InStatus r p x = (p ≡ memory) × Within x (r .iopb) 4
 
 abbrev pub InSectors : Record → Space → ℕ → Type 0
-InSectors r p x = (p ≡ theDisk) × Within x (r .sector) (r .count)
+InSectors r p x = (p ≡ disk (r .unit)) × Within x (r .sector) (r .count)
 
 abbrev pub ReadsAt : Record → Space → ℕ → Type 0
 ReadsAt r p x = (Writes r × InData r p x) ⊎ (Reads r × InSectors r p x)

@@ -1,13 +1,15 @@
--- A deck, and the memory, drive and image that it is run on (Bench 1 to 6). b is the bytes of a deck.
+-- A deck, and the memory, drives and image that it is run on (Bench 1 to 6). b is the bytes of a deck.
 use Prim.Native.Nat.{ℕ, _+_, _*_, _/_, _%_}
-use mathlib.Core.Bool.{Bool, not, _&&_, cond}
+use mathlib.Core.Bool.{Bool, true, not, _&&_, cond}
 use mathlib.Core.List.{List, [], _++_, foldl}
 use lib.ListN.{length, getD, take, drop, replicate}
 use lib.Seq.{sets}
 use lib.Dec.{leb, eqb}
 use Rattle.meaning.specs.Each.{everyOf, upTo}
 use Rattle.meaning.specs.declared.Drive.{Drive}
+use Rattle.meaning.specs.declared.LentDrives.{LentDrives}
 use Rattle.meaning.specs.Sectors.{sectorBytes}
+use Rattle.meaning.specs.Drives.{alone}
 use Rattle.meaning.specs.Fields.{iopbBytes}
 
 -- Bench 1: records of 32 bytes, with no header, 1 to 32 of them
@@ -39,7 +41,11 @@ isDeck b =
 
 -- Bench 3 and 6: maxima 1, 1 and 7, the last head's 7 too, and byte 31 of the first record protects it
 unfoldable pub benchDrive : List ℕ → Drive
-benchDrive b = record { cylinder = 1; head = 1; sector = 7; «last_sector» = 7; protected = eqb (byteIn b 0 31) 1 }
+benchDrive b = record { cylinder = 1; head = 1; sector = 7; «last_sector» = 7; protected = eqb (byteIn b 0 31) 1; present = true }
+
+-- Bench 6: all other units are absent
+abbrev pub benchDrives : List ℕ → LentDrives
+benchDrives b = alone (benchDrive b)
 
 -- Bench 5: zeros, with the IOPB of record k at 32 x k
 abbrev pub memoryBytes : ℕ

@@ -2,13 +2,14 @@
 -- (Line 27 to 38). Two cylinders of three heads; heads 0 and 1 have 5 sectors, the last head has 2: so 12 sectors on a cylinder, 24 in all.
 use mathlib.Core.Path.{_≡_, refl}
 use Prim.Native.Nat.{ℕ, _*_}
-use mathlib.Core.Bool.{false}
+use mathlib.Core.Bool.{true, false}
 use mathlib.Core.Option.{Option, some, none}
 use mathlib.Core.List.{List, [], _∷_, map}
 use lib.ListN.{replicate}
 use Rattle.meaning.specs.declared.Drive.{Drive}
 use Rattle.meaning.specs.declared.Place.{Place}
-use Rattle.meaning.specs.Store.{lent}
+use Rattle.meaning.specs.Store.{lent, images}
+use Rattle.meaning.specs.Drives.{alone, driveOf, drivesOf}
 use Rattle.meaning.specs.State.{stateOf, mostCommands}
 use Rattle.meaning.specs.Sectors.{sectorBytes, maximumOn, perCylinder, sectorCount, largestSector, sectorNumber, maximaRight, imageRight}
 use Rattle.meaning.specs.Place.{placeAt, numberOf, placeAfter, placed}
@@ -19,7 +20,7 @@ use Rattle.meaning.specs.Run.{runNumber}
 
 -- a drive by its maxima: of cylinders, of heads, of sectors, and of sectors on the last head
 abbrev pub openDrive : ℕ → ℕ → ℕ → ℕ → Drive
-openDrive cylinder head sector last = record { cylinder = cylinder; head = head; sector = sector; «last_sector» = last; protected = false }
+openDrive cylinder head sector last = record { cylinder = cylinder; head = head; sector = sector; «last_sector» = last; protected = false; present = true }
 
 abbrev pub shortLast : Drive
 shortLast = openDrive 1 2 4 1
@@ -61,8 +62,9 @@ answer (numberAt d p) = numberOf d p ∷ []
 answer (numberAfter d p) = maybeNumber d (placeAfter d p)
 answer (placeFor d n) = let r = placed d n in r .number ∷ r .place .cylinder ∷ r .place .head ∷ r .place .sector ∷ []
 answer (over d n) =
-    let image : List ℕ = replicate (sectorBytes * n) 0 in
-    runNumber d 0 (stateOf [] image (replicate mostCommands noRecord)) ∷ lookNumber d 0 (lent [] image) ∷ []
+    let is = images (replicate (sectorBytes * n) 0) [] [] [] in
+    let ds = drivesOf (alone d) in
+    runNumber ds 0 (stateOf [] is (replicate mostCommands noRecord)) ∷ lookNumber ds 0 0 (lent [] is) ∷ []
 
 pub record Example : Type 0 where
   pub asks : Asks
@@ -111,5 +113,5 @@ rows =
     ∷ []
 
 pub last-head-rows : Answered rows
-unfolding maximumOn perCylinder sectorCount largestSector sectorNumber maximaRight imageRight placeAfter placed lookNumber codeOf runNumber
+unfolding maximumOn perCylinder sectorCount largestSector sectorNumber maximaRight imageRight driveOf placeAfter placed lookNumber codeOf runNumber
 last-head-rows = refl

@@ -7,7 +7,7 @@ use lib.ListN.{take, drop}
 use lib.Dec.{eqb}
 use Rattle.meaning.specs.First.{firstOf}
 use Rattle.meaning.specs.Each.{everyOf, sumOf}
-use Rattle.meaning.specs.declared.Drive.{Drive}
+use Rattle.meaning.specs.Drives.{Drives}
 use Rattle.meaning.specs.declared.Record.{Record}
 use Rattle.meaning.specs.declared.Ran.{Ran}
 use Rattle.meaning.specs.Store.{Store}
@@ -33,7 +33,7 @@ unfolding finished
 allFinished t n = everyOf finished (take n t)
 
 -- 1 and 9, which both runs test first; otherwise 0
-unfoldable pub runNumber : Drive → ℕ → State → ℕ
+unfoldable pub runNumber : Drives → ℕ → State → ℕ
 unfolding sizesWrong spoiled
 runNumber d n s = firstOf (runRows d n s) 0
 
@@ -49,19 +49,19 @@ atStart s = record { steps = 0; refused = 0; state = s }
 -- ---- by picks
 
 -- one pick of a run: where it is refused it is passed over, and counted (Run 2 and 4)
-unfoldable pub onePick : Drive → ℕ → ℕ → Tally → Tally
+unfoldable pub onePick : Drives → ℕ → ℕ → Tally → Tally
 unfolding pickNumber stepAt
 onePick d n p y =
     cond (eqb (pickNumber d n p (y .state)) 0)
     (record { steps = y .steps + 1; refused = y .refused; state = stepAt d p (y .state) })
     (record { steps = y .steps; refused = y .refused + 1; state = y .state })
 
-unfoldable pub picksFrom : Drive → ℕ → List ℕ → Tally → Tally
+unfoldable pub picksFrom : Drives → ℕ → List ℕ → Tally → Tally
 unfolding onePick
 picksFrom d n [] y = y
 picksFrom d n (p ∷ ps) y = picksFrom d n ps (onePick d n p y)
 
-unfoldable pub byPicks : Drive → ℕ → List ℕ → State → Tally
+unfoldable pub byPicks : Drives → ℕ → List ℕ → State → Tally
 unfolding picksFrom
 byPicks d n ps s = picksFrom d n ps (atStart s)
 
@@ -73,14 +73,14 @@ unfolding stepped
 advanced zero r = r
 advanced (suc k) r = advanced k (stepped r)
 
-unfoldable pub stepsDone : Drive → ℕ → Record → Store → Store
+unfoldable pub stepsDone : Drives → ℕ → Record → Store → Store
 unfolding step stepped
 stepsDone d zero r s = s
 stepsDone d (suc k) r s = stepsDone d k (stepped r) (step d r s)
 
 -- of each command in turn as many steps as are left of it, or of the budget b: always the earliest
 -- unfinished command
-unfoldable pub written : Drive → ℕ → List Record → Store → Tally
+unfoldable pub written : Drives → ℕ → List Record → Store → Tally
 unfolding remaining advanced stepsDone
 written d b [] s = atStart (record { table = []; store = s })
 written d b (r ∷ rs) s =
@@ -93,7 +93,7 @@ written d b (r ∷ rs) s =
     }
 
 -- the same of the first n records of a table; those past them are left alone
-unfoldable pub asWritten : Drive → ℕ → ℕ → State → Tally
+unfoldable pub asWritten : Drives → ℕ → ℕ → State → Tally
 unfolding written
 asWritten d n b s =
     let w = written d b (take n (s .table)) (s .store) in
@@ -106,12 +106,12 @@ asWritten d n b s =
 -- ---- the whole of a run
 
 -- what a run comes to that would come to `go s`: on 1 and 9 nothing is done
-unfoldable pub ranTo : Drive → ℕ → (State → Tally) → State → Tally
+unfoldable pub ranTo : Drives → ℕ → (State → Tally) → State → Tally
 unfolding runNumber
 ranTo d n go s = cond (eqb (runNumber d n s) 0) (go s) (atStart s)
 
 -- what it answers: on 1 and 9 that number, zero counts and "not finished"
-unfoldable pub runReply : Drive → ℕ → (State → Tally) → State → Ran
+unfoldable pub runReply : Drives → ℕ → (State → Tally) → State → Ran
 unfolding ranTo allFinished
 runReply d n go s =
     let y = ranTo d n go s in
@@ -124,6 +124,6 @@ runReply d n go s =
 
 -- The whole of a run: r is what it answers, s′ the state after it. `go` is `byPicks d n ps` for a run by picks, `asWritten d n b` for a
 -- run as written with the budget b.
-unfoldable pub RunGives : Drive → ℕ → (State → Tally) → State → Ran → State → Type 0
+unfoldable pub RunGives : Drives → ℕ → (State → Tally) → State → Ran → State → Type 0
 unfolding runReply
 RunGives d n go s r s′ = (r ≡ runReply d n go s) × (s′ ≡ ranTo d n go s .state)

@@ -7,6 +7,8 @@ use mathlib.Core.List.{List, [], _∷_, _++_, map}
 use lib.ListN.{length, getD, replicate}
 use Rattle.meaning.specs.declared.Drive.{Drive}
 use Rattle.meaning.specs.Sectors.{maximumOn, perCylinder, sectorCount, sectorNumber, maximaRight, imageRight}
+use Rattle.meaning.specs.Drives.{Drives, alone, driveOf, drivesOf}
+use Rattle.meaning.specs.Store.{images}
 use Rattle.meaning.specs.Fields.{byteOf}
 use Rattle.meaning.specs.Ranges.{crosses}
 use Rattle.meaning.specs.State.{State, stateOf}
@@ -23,11 +25,14 @@ use Rattle.meaning.specs.Starred.{Byte, _≔_, put, commandsIn, noComman
 
 -- the bench's drive, protected or not
 abbrev pub drive : Bool → Drive
-drive protected = record { cylinder = 1; head = 1; sector = 7; «last_sector» = 7; protected = protected }
+drive protected = record { cylinder = 1; head = 1; sector = 7; «last_sector» = 7; protected = protected; present = true }
+
+abbrev drives : Bool → Drives
+drives protected = drivesOf (alone (drive protected))
 
 -- memory with these bytes, and else zeros
 abbrev pub withBytes : List Byte → State
-withBytes vs = stateOf (put (replicate memoryBytes 0) vs) benchImage noRecords
+withBytes vs = stateOf (put (replicate memoryBytes 0) vs) (images benchImage [] [] []) noRecords
 
 -- the element at a: a range of so many bytes at an address
 abbrev pub element : ℕ → ℕ → ℕ → List Byte
@@ -51,11 +56,11 @@ pub data Asks : Type 0 where
 
 abbrev pub pickIn : State → Chain → ℕ
 pickIn s (refused n) = 255
-pickIn s (accepted rs) = pickNumber (drive false) (length rs) 1 (record { table = filled (accepted rs) noRecords; store = s .store })
+pickIn s (accepted rs) = pickNumber (drives false) (length rs) 1 (record { table = filled (accepted rs) noRecords; store = s .store })
 
 abbrev pub answer : Asks → ℕ
-answer (codeOn protected vs) = getD (commandsIn (chainAt (drive protected) 0 (withBytes vs))) 0 noCommand .code
-answer (pickOne vs) = pickIn (withBytes vs) (chainAt (drive false) 0 (withBytes vs))
+answer (codeOn protected vs) = getD (commandsIn (chainAt (drives protected) 0 (withBytes vs))) 0 noCommand .code
+answer (pickOne vs) = pickIn (withBytes vs) (chainAt (drives false) 0 (withBytes vs))
 
 pub record Example : Type 0 where
   pub asks : Asks
@@ -121,5 +126,5 @@ abbrev pub Answered : List Example → Type 0
 Answered rs = map (λ (r : Example). answer (r .asks)) rs ≡ map (λ (r : Example). r .gives) rs
 
 pub scatter-rows : Answered rows
-unfolding byteOf copiedAt linkAt linksAt linkCount linksIn codeOf earlyCode linksRead recordOf chainAt sizesWrong maximaRight imageRight maximumOn perCylinder sectorCount sectorNumber benchImage pickNumber conflict crosses stepsOf finished
+unfolding byteOf copiedAt linkAt linksAt linkCount linksIn codeOf earlyCode linksRead recordOf chainAt sizesWrong maximaRight imageRight maximumOn perCylinder sectorCount sectorNumber driveOf benchImage pickNumber conflict crosses stepsOf finished
 scatter-rows = refl

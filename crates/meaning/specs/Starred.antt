@@ -7,6 +7,8 @@ use mathlib.Core.List.{List, [], _∷_, _++_, map}
 use lib.ListN.{length, getD, set, replicate}
 use Rattle.meaning.specs.declared.Record.{Record}
 use Rattle.meaning.specs.Sectors.{maximumOn, perCylinder, sectorCount, sectorNumber, maximaRight, imageRight}
+use Rattle.meaning.specs.Drives.{drivesOf, driveOf}
+use Rattle.meaning.specs.Store.{images}
 use Rattle.meaning.specs.Fields.{byteOf}
 use Rattle.meaning.specs.Ranges.{crosses}
 use Rattle.meaning.specs.State.{stateOf}
@@ -18,7 +20,7 @@ use Rattle.meaning.specs.Touch.{conflict}
 use Rattle.meaning.specs.Step.{closing}
 use Rattle.meaning.specs.Pick.{pickNumber}
 use Rattle.meaning.specs.Run.{runNumber}
-use Rattle.meaning.specs.Deck.{benchDrive, benchMemory, benchImage}
+use Rattle.meaning.specs.Deck.{benchDrive, benchDrives, benchMemory, benchImage}
 use Rattle.meaning.specs.Bench.{noRecords, benchState}
 
 -- byte `at` of a record is `is`
@@ -47,7 +49,7 @@ exampleDeck =
 
 -- the chain that a deck lays in the bench's memory
 abbrev pub chainOf : List ℕ → Chain
-chainOf b = chainAt (benchDrive b) 0 (benchState b)
+chainOf b = chainAt (drivesOf (benchDrives b)) 0 (benchState b)
 
 -- the commands of a chain, none where the walk refuses, and what stands for the first one then: its code is one that no command gets
 abbrev pub commandsIn : Chain → List Record
@@ -55,13 +57,13 @@ commandsIn (refused n) = []
 commandsIn (accepted rs) = rs
 
 abbrev pub noCommand : Record
-noCommand = record { iopb = 0; address = 0; sector = 0; taken = 0; ranges = 0; count = 0; byte0 = 0; code = 255; fitted = 0; unused = 0; list = [] }
+noCommand = record { iopb = 0; address = 0; sector = 0; taken = 0; ranges = 0; count = 0; unit = 0; byte0 = 0; code = 255; fitted = 0; list = [] }
 
 -- the number of a first pick at place p on a deck's chain; 255 where there is none
 abbrev pub pickIn : List ℕ → ℕ → Chain → ℕ
 pickIn b p (refused n) = 255
 pickIn b p (accepted rs) =
-    pickNumber (benchDrive b) (length rs) p (stateOf (benchMemory b) benchImage (filled (accepted rs) noRecords))
+    pickNumber (drivesOf (benchDrives b)) (length rs) p (stateOf (benchMemory b) (images benchImage [] [] []) (filled (accepted rs) noRecords))
 
 -- what a row of the table asks
 pub data Asks : Type 0 where
@@ -91,8 +93,8 @@ abbrev pub answer : Asks → ℕ
 answer (codeOfCommand vs) = first vs .code
 answer (firstPick b p) = pickIn b p (chainOf b)
 answer (commandsOf vs) = length (commandsIn (chainOf (deckRecord vs)))
-answer (statusByte vs j) = getD (closing (benchDrive (deckRecord vs)) (first vs)) j 0
-answer (runOver n m t) = runNumber (benchDrive []) n (stateOf (replicate m 0) benchImage (replicate t noRecord))
+answer (statusByte vs j) = getD (closing (drivesOf (benchDrives (deckRecord vs))) (first vs)) j 0
+answer (runOver n m t) = runNumber (drivesOf (benchDrives [])) n (stateOf (replicate m 0) (images benchImage [] [] []) (replicate t noRecord))
 
 abbrev pub Answered : List Example → Type 0
 Answered rs = map (λ (r : Example). answer (r .asks)) rs ≡ map (λ (r : Example). r .gives) rs
@@ -121,7 +123,7 @@ rows =
     ∷ []
 
 pub starred-rows : Answered rows
-unfolding byteOf copiedAt linkCount linksIn codeOf earlyCode linksRead recordOf chainAt sizesWrong maximaRight imageRight maximumOn perCylinder sectorCount sectorNumber benchMemory benchImage benchDrive pickNumber conflict crosses stepsOf finished
+unfolding byteOf copiedAt linkCount linksIn codeOf earlyCode linksRead recordOf chainAt sizesWrong maximaRight imageRight maximumOn perCylinder sectorCount sectorNumber benchMemory benchImage benchDrive driveOf pickNumber conflict crosses stepsOf finished
 starred-rows = refl
 
 -- ---- ours
@@ -176,5 +178,5 @@ ours =
     ∷ []
 
 pub our-rows : Answered ours
-unfolding byteOf copiedAt linkCount linksIn codeOf fittedOf earlyCode linksRead recordOf chainAt sizesWrong maximaRight imageRight maximumOn perCylinder sectorCount sectorNumber benchMemory benchImage benchDrive pickNumber conflict crosses stepsOf finished closing runNumber
+unfolding byteOf copiedAt linkCount linksIn codeOf fittedOf earlyCode linksRead recordOf chainAt sizesWrong maximaRight imageRight maximumOn perCylinder sectorCount sectorNumber benchMemory benchImage benchDrive driveOf pickNumber conflict crosses stepsOf finished closing runNumber
 our-rows = refl

@@ -1,9 +1,9 @@
 -- Where bytes are, and how they move. A store is asked by space: host memory (Board 1), or the disk of a unit (Board 2). An area is some bytes of one space;
 -- a move copies an area to another place, or posts given bytes. What two areas of different spaces hold never meets.
-use Prim.Native.Nat.{ℕ, zero, suc}
+use Prim.Native.Nat.{ℕ}
 use mathlib.Core.Bool.{Bool, true, false, cond}
 use mathlib.Core.List.{List, [], _∷_}
-use lib.ListN.{take, drop}
+use lib.ListN.{getD, take, drop}
 use lib.Seq.{sets}
 use lib.Dec.{eqb}
 
@@ -21,17 +21,15 @@ same (disk u) (disk v) = eqb u v
 abbrev pub Store : Type 0
 Store = Space → List ℕ
 
--- The edge of the code: which lent slice is which space. Memory is m; the image i is the disk of unit 0, the one drive that there is (Board 4).
-abbrev pub theUnit : ℕ
-theUnit = 0
+-- The edge of the code: which lent slice is which space. Memory is m, and the disk of a unit its image, the first image being that of
+-- unit 0; past the last image there is nothing (Board 4).
+abbrev pub lent : List ℕ → List (List ℕ) → Store
+lent m images memory = m
+lent m images (disk u) = getD images u []
 
-abbrev pub theDisk : Space
-theDisk = disk theUnit
-
-abbrev pub lent : List ℕ → List ℕ → Store
-lent m i memory = m
-lent m i (disk zero) = i
-lent m i (disk (suc u)) = []
+-- the four images of a call, as a list
+abbrev pub images : List ℕ → List ℕ → List ℕ → List ℕ → List (List ℕ)
+images i₀ i₁ i₂ i₃ = i₀ ∷ i₁ ∷ i₂ ∷ i₃ ∷ []
 
 -- ---- areas
 

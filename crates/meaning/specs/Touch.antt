@@ -1,7 +1,6 @@
 -- What a command reads and writes from its first step to its close, as lists of ranges, and when two commands conflict (Touch 1 to 5).
 use mathlib.Core.Bool.{Bool, _||_, cond}
 use mathlib.Core.List.{List, [], _∷_, _++_}
-use Rattle.meaning.specs.Store.{theUnit}
 use Rattle.meaning.specs.Ranges.{Range, bytes, sectorsOf, meet}
 use Rattle.meaning.specs.Links.{rangesOf}
 use Rattle.meaning.specs.declared.Record.{Record}
@@ -15,12 +14,12 @@ pub record Touched : Type 0 where
 abbrev pub dataBytes : Record → List Range
 dataBytes r = rangesOf (listed r) (r .address) (r .count) (linksOf r)
 
--- its four status bytes, its sectors
+-- its four status bytes, and its sectors, which are those of its own unit
 abbrev pub statusBytes : Record → Range
 statusBytes r = bytes (r .iopb) 4
 
 abbrev pub sectors : Record → Range
-sectors r = sectorsOf theUnit (r .sector) (r .count)
+sectors r = sectorsOf (r .unit) (r .sector) (r .count)
 
 -- Touch 1: a Read Data with code 00 reads its sectors, and writes its data bytes and its status bytes
 abbrev pub byRead : Record → Touched

@@ -5,6 +5,7 @@ use mathlib.Core.List.{List, [], _∷_}
 use Rattle.meaning.specs.declared.Drive.{Drive}
 use Rattle.meaning.specs.Sectors.{maximumOn, perCylinder, sectorCount, largestSector, sectorNumber, maximaRight, imageRight}
 use Rattle.meaning.specs.Place.{placeAt, placeAfter, placed}
+use Rattle.meaning.specs.Drives.{driveOf}
 use Rattle.meaning.specs.Look.{lookNumber}
 use Rattle.meaning.specs.Run.{runNumber}
 use Rattle.meaning.specs.LastHead.{openDrive, numberAt, numberAfter, placeFor, over, Example, _⇒_, Answered}
@@ -32,5 +33,5 @@ rows =
     ∷ []
 
 pub width-rows : Answered rows
-unfolding maximumOn perCylinder sectorCount largestSector sectorNumber maximaRight imageRight placeAfter placed lookNumber runNumber
+unfolding maximumOn perCylinder sectorCount largestSector sectorNumber maximaRight imageRight driveOf placeAfter placed lookNumber runNumber
 width-rows = refl

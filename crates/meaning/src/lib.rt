@@ -7,8 +7,8 @@ pub struct Maximum(pub u32);
 // How many there are of a kind.
 pub struct Count(pub u64);
 
-// A drive: its maximum cylinder, head and sector, and the maximum sector of its last head, each counted from zero; and its write-protect
-// mark.
+// A drive: its maximum cylinder, head and sector, and the maximum sector of its last head, each counted from zero; its write-protect mark;
+// and whether it is there at all.
 #[repr(C)]
 pub struct Drive {
     pub cylinder: u16,
@@ -17,6 +17,13 @@ pub struct Drive {
     pub sector: u8,
     pub last_sector: u8,
     pub protected: bool,
+    pub present: bool,
+}
+
+// The drives as a caller lends them: one for each of the units 0 to 3, there or absent.
+#[repr(C)]
+pub struct LentDrives {
+    pub units: [Drive; 4],
 }
 
 // A place on a drive.
@@ -83,8 +90,8 @@ pub struct Record {
     pub ranges: u16,
     // how many sectors
     pub count: u16,
-    // the walk makes it 0, and nothing looks at it: no byte of a table is left unset
-    pub unused: u8,
+    // the unit whose drive it goes to
+    pub unit: u8,
     // the copied byte 0
     pub byte0: u8,
     // the code that its close will post, and how many sectors would have fitted, which it posts beside it
@@ -126,7 +133,7 @@ pub struct RanTable {
     pub table: [Record; 32],
 }
 
-// A part of the image, named by where it begins and by its length: what a look gives a program that cannot be handed the part itself.
+// A part of an image, named by where it begins and by its length: what a look gives a program that cannot be handed the part itself.
 #[repr(C)]
 pub struct Part {
     pub at: usize,

@@ -4,7 +4,7 @@ use Prim.Native.Nat.{ℕ, _≤_}
 use native.Mathlib.Nat.{not-suc-le-zero}
 use mathlib.Core.List.{List}
 use lib.ListN.{length}
-use Rattle.meaning.specs.declared.Drive.{Drive}
+use Rattle.meaning.specs.Drives.{Drives}
 use Rattle.meaning.specs.declared.Record.{Record}
 use Rattle.meaning.specs.declared.Walked.{Walked}
 use Rattle.meaning.specs.State.{State, mostCommands}
@@ -19,7 +19,7 @@ pub still-accepted : StillAccepted
 still-accepted = still.still-accepted
 
 -- what an accepted walk gives, by what its chain comes to
-module _ (d : Drive) (start : ℕ) (s : State) where
+module _ (d : Drives) (start : ℕ) (s : State) where
   Fits : Walked → List Record → Type 0
   Fits w t =
       (runNumber d (w .commands) (record { table = t; store = s .store }) ≡ 0)

@@ -9,7 +9,7 @@ use mathlib.Core.List.{List, [], _∷_}
 use lib.Dec.{eqb}
 use borrow.Author.Tests.{eqb-true, eqb-false, eq-eqb}
 use native.Mathlib.Nat.{le-refl}
-use Rattle.meaning.specs.declared.Drive.{Drive}
+use Rattle.meaning.specs.Drives.{Drives}
 use Rattle.meaning.specs.declared.Record.{Record}
 use Rattle.meaning.specs.declared.Walked.{Walked}
 use Rattle.meaning.specs.declared.Ran.{Ran}
@@ -32,16 +32,16 @@ use Rattle.order.proofs.Accepted.{walk-is-sound}
 -- ---- a call is some picks
 
 -- y is what some picks come to from s, but for the picks refused
-record SomePicks (d : Drive) (n : ℕ) (s : State) (k : ℕ) (s′ : State) : Type 0 where
+record SomePicks (d : Drives) (n : ℕ) (s : State) (k : ℕ) (s′ : State) : Type 0 where
   picks : List ℕ
   steps : k ≡ byPicks d n picks s .steps
   state : s′ ≡ byPicks d n picks s .state
 
-no-picks : (d : Drive) (n : ℕ) (s : State) → SomePicks d n s 0 s
+no-picks : (d : Drives) (n : ℕ) (s : State) → SomePicks d n s 0 s
 unfolding byPicks picksFrom
 no-picks d n s = record { picks = []; steps = refl; state = refl }
 
-one-pick : (d : Drive) (n p : ℕ) (s : State) → SomePicks d n s (takes d n (pick p) s) (leaves d n (pick p) s)
+one-pick : (d : Drives) (n p : ℕ) (s : State) → SomePicks d n s (takes d n (pick p) s) (leaves d n (pick p) s)
 unfolding byPicks picksFrom onePick picked
 one-pick d n p s = record { picks = p ∷ []; steps = go-steps (eqb (pickNumber d n p s) 0); state = go-state (eqb (pickNumber d n p s) 0) }
   where
@@ -60,7 +60,7 @@ one-pick d n p s = record { picks = p ∷ []; steps = go-steps (eqb (pickNumber 
     go-state false = refl
 
 -- a run that would come to what some picks come to
-run-picks : (d : Drive) (n : ℕ) (go : State → Tally) (s : State) (ps : List ℕ) → (runNumber d n s ≡ 0 → go s ≡ byPicks d n ps s)
+run-picks : (d : Drives) (n : ℕ) (go : State → Tally) (s : State) (ps : List ℕ) → (runNumber d n s ≡ 0 → go s ≡ byPicks d n ps s)
     → SomePicks d n s (ranTo d n go s .steps) (ranTo d n go s .state)
 unfolding ranTo
 run-picks d n go s ps same = which (eqb (runNumber d n s) 0) refl
@@ -71,28 +71,28 @@ run-picks d n go s ps same = which (eqb (runNumber d n s) 0) refl
         record { picks = ps; steps = ap (λ (y : Tally). y .steps) h; state = ap (λ (y : Tally). y .state) h }
     which false e = no-picks d n s
 
-call-picks : (d : Drive) (n : ℕ) (c : Call) (s : State) → SomePicks d n s (takes d n c s) (leaves d n c s)
+call-picks : (d : Drives) (n : ℕ) (c : Call) (s : State) → SomePicks d n s (takes d n c s) (leaves d n c s)
 call-picks d n (pick p) s = one-pick d n p s
 call-picks d n (runByPicks ps) s = run-picks d n (byPicks d n ps) s ps (λ _. refl)
 call-picks d n (runAsWritten b) s = run-picks d n (asWritten d n b) s (writtenPicks n b (s .table)) (written-is-picks d n b s)
 
 -- ---- so of any list of calls
 
-call-then-rest : (d : Drive) (n : ℕ) (c : Call) (s : State) → rest d n (leaves d n c s) ≡ rest d n s
+call-then-rest : (d : Drives) (n : ℕ) (c : Call) (s : State) → rest d n (leaves d n c s) ≡ rest d n s
 call-then-rest d n c s = let q = call-picks d n c s in ap (rest d n) (q .state) ∙ picks-then-rest d n (q .picks) s
 
 pub calls-then-rest : CallsThenRest
 calls-then-rest d n [] s = refl
 calls-then-rest d n (c ∷ cs) s = calls-then-rest d n cs (leaves d n c s) ∙ call-then-rest d n c s
 
-calls-accepted : (d : Drive) (n : ℕ) (cs : List Call) (s : State) → runNumber d n s ≡ 0 → runNumber d n (afterCalls d n cs s) ≡ 0
+calls-accepted : (d : Drives) (n : ℕ) (cs : List Call) (s : State) → runNumber d n s ≡ 0 → runNumber d n (afterCalls d n cs s) ≡ 0
 calls-accepted d n [] s e = e
 calls-accepted d n (c ∷ cs) s e =
     let q = call-picks d n c s in
     let h = picks-accepted d n (q .picks) s (run-passed d n s e) in
     calls-accepted d n cs (leaves d n c s) (passed-run d n (leaves d n c s) (rw (q .state) h))
 
-add-up : (d : Drive) (n : ℕ) (cs : List Call) (s : State) → stepsTaken d n cs s + stepsLeft (afterCalls d n cs s .table) n ≡ stepsLeft (s .table) n
+add-up : (d : Drives) (n : ℕ) (cs : List Call) (s : State) → stepsTaken d n cs s + stepsLeft (afterCalls d n cs s .table) n ≡ stepsLeft (s .table) n
 add-up d n [] s = omega arith
 add-up d n (c ∷ cs) s =
     let q = call-picks d n c s in
@@ -102,13 +102,13 @@ add-up d n (c ∷ cs) s =
 
 -- ---- the same of calls that are known by their contracts
 
-made : (d : Drive) (n : ℕ) (c : Call) (s : State) (k : ℕ) (s′ : State) → Makes d n c s k s′ → (k ≡ takes d n c s) × (s′ ≡ leaves d n c s)
+made : (d : Drives) (n : ℕ) (c : Call) (s : State) (k : ℕ) (s′ : State) → Makes d n c s k s′ → (k ≡ takes d n c s) × (s′ ≡ leaves d n c s)
 unfolding PickGives RunGives runReply
 made d n (pick p) s k s′ g = (g .2 ∙ ap (λ (j : ℕ). cond (eqb j 0) 1 0) (g .1 .0), g .1 .1)
 made d n (runByPicks ps) s k s′ g = (g .2 ∙ ap (λ (x : Ran). x .steps) (g .1 .0), g .1 .1)
 made d n (runAsWritten b) s k s′ g = (g .2 ∙ ap (λ (x : Ran). x .steps) (g .1 .0), g .1 .1)
 
-made-all : (d : Drive) (n : ℕ) (cs : List Call) (s : State) (k : ℕ) (s′ : State) → MakeAll d n cs s k s′
+made-all : (d : Drives) (n : ℕ) (cs : List Call) (s : State) (k : ℕ) (s′ : State) → MakeAll d n cs s k s′
     → (k ≡ stepsTaken d n cs s) × (s′ ≡ afterCalls d n cs s)
 made-all d n [] s k s′ g = (g .0, g .1)
 made-all d n (c ∷ cs) s k s′ g =
@@ -123,12 +123,12 @@ calls-add-up d n cs s k s′ g =
 
 -- ---- where 1 or 9 is given, nothing is done
 
-refused-picks : (d : Drive) (n : ℕ) (ps : List ℕ) (s : State) → (runNumber d n s ≡ 0 → ⊥) → (byPicks d n ps s .state ≡ s) × (byPicks d n ps s .steps ≡ 0)
+refused-picks : (d : Drives) (n : ℕ) (ps : List ℕ) (s : State) → (runNumber d n s ≡ 0 → ⊥) → (byPicks d n ps s .state ≡ s) × (byPicks d n ps s .steps ≡ 0)
 refused-picks d n ps s off =
     picks-keep d n (λ k y. (y .state ≡ s) × (y .steps ≡ 0))
     (λ k p y h f q. absurd (off (sym (ap (runNumber d n) (q .0)) ∙ passed-run d n (y .state) h))) (λ k y q. q) ps s (refl, refl)
 
-refused-calls : (d : Drive) (n : ℕ) (cs : List Call) (s : State) → (runNumber d n s ≡ 0 → ⊥) → (afterCalls d n cs s ≡ s) × (stepsTaken d n cs s ≡ 0)
+refused-calls : (d : Drives) (n : ℕ) (cs : List Call) (s : State) → (runNumber d n s ≡ 0 → ⊥) → (afterCalls d n cs s ≡ s) × (stepsTaken d n cs s ≡ 0)
 refused-calls d n [] s off = (refl, refl)
 refused-calls d n (c ∷ cs) s off =
     let q = call-picks d n c s in
@@ -139,7 +139,7 @@ refused-calls d n (c ∷ cs) s off =
 
 -- ---- the statements
 
-module _ (d : Drive) (n b : ℕ) (s : State) where
+module _ (d : Drives) (n b : ℕ) (s : State) where
   run-state : (r : Ran) (s′ : State) → RunGives d n (asWritten d n b) s r s′ → s′ ≡ ranTo d n (asWritten d n b) s .state
   unfolding RunGives
   run-state r s′ g = g .1

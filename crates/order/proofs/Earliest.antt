@@ -10,7 +10,7 @@ use lib.ListN.{length, getD, set, take, drop, take-append-drop}
 use lib.Seq.{length-take-le, take-set-lt, drop-set-lt, getD-take, take-take}
 use lib.Dec.{eqb}
 use borrow.Author.Tests.{eq-eqb}
-use Rattle.meaning.specs.declared.Drive.{Drive}
+use Rattle.meaning.specs.Drives.{Drives}
 use Rattle.meaning.specs.declared.Record.{Record}
 use Rattle.meaning.specs.Each.{everyOf}
 use Rattle.meaning.specs.Store.{Store}
@@ -46,12 +46,12 @@ earliest-never-waits d n p s e h =
 
 -- ---- nothing to do
 
-no-budget : (d : Drive) (t : List Record) (s : Store) → written d 0 t s ≡ atStart (record { table = t; store = s })
+no-budget : (d : Drives) (t : List Record) (s : Store) → written d 0 t s ≡ atStart (record { table = t; store = s })
 unfolding written
 no-budget d [] s = refl
 no-budget d (r ∷ rs) s = written-cons d 0 r rs s 0 (zero-min (remaining r)) ∙ ap (front 0 r) (no-budget d rs s)
 
-no-command : (d : Drive) (b : ℕ) (t : List Record) (s : Store) → everyOf finished t ≡ true → written d b t s ≡ atStart (record { table = t; store = s })
+no-command : (d : Drives) (b : ℕ) (t : List Record) (s : Store) → everyOf finished t ≡ true → written d b t s ≡ atStart (record { table = t; store = s })
 unfolding written
 no-command d b [] s e = refl
 no-command d b (r ∷ rs) s e =
@@ -78,7 +78,7 @@ pub earliest-is-there : EarliestIsThere
 unfolding allFinished
 earliest-is-there t n e = some-command t n e
 
-one-step : (d : Drive) (b : ℕ) (t : List Record) (s : Store) (p : ℕ) → Earliest t (length t) p
+one-step : (d : Drives) (b : ℕ) (t : List Record) (s : Store) (p : ℕ) → Earliest t (length t) p
     → let r = getD t p noRecord in
     written d (suc b) t s ≡ oneMore (written d b (set t p (stepped r)) (step d r s))
 one-step d b [] s p h = absurd (not-suc-le-zero (h .inUse))
@@ -103,11 +103,11 @@ rejoin more y =
 whole : (n : ℕ) (s : State) → rejoin (drop n (s .table)) (atStart (record { table = take n (s .table); store = s .store })) ≡ atStart s
 whole n s = ap (λ (t : List Record). atStart (record { table = t; store = s .store })) (take-append-drop n (s .table))
 
-written-none : (d : Drive) (n : ℕ) (s : State) → asWritten d n 0 s ≡ atStart s
+written-none : (d : Drives) (n : ℕ) (s : State) → asWritten d n 0 s ≡ atStart s
 unfolding asWritten
 written-none d n s = ap (rejoin (drop n (s .table))) (no-budget d (take n (s .table)) (s .store)) ∙ whole n s
 
-written-done : (d : Drive) (n b : ℕ) (s : State) → allFinished (s .table) n ≡ true → asWritten d n b s ≡ atStart s
+written-done : (d : Drives) (n b : ℕ) (s : State) → allFinished (s .table) n ≡ true → asWritten d n b s ≡ atStart s
 unfolding asWritten allFinished
 written-done d n b s e = ap (rejoin (drop n (s .table))) (no-command d b (take n (s .table)) (s .store) e) ∙ whole n s
 
@@ -120,7 +120,7 @@ first-n t n p l h =
       before = rw (take-take p n t (let k = h .inUse in omega arith)) (h .before);
     }
 
-written-step : (d : Drive) (n b p : ℕ) (s : State) → n ≤ length (s .table) → Earliest (s .table) n p
+written-step : (d : Drives) (n b p : ℕ) (s : State) → n ≤ length (s .table) → Earliest (s .table) n p
     → asWritten d n (suc b) s ≡ oneMore (asWritten d n b (stepAt d p s))
 unfolding asWritten stepAt
 written-step d n b p s l h =
@@ -132,7 +132,7 @@ written-step d n b p s l h =
 -- ---- pick by pick
 
 -- an accepted pick, and then more
-pick-first : (d : Drive) (n p : ℕ) (ps : List ℕ) (s : State) → pickNumber d n p s ≡ 0 → byPicks d n (p ∷ ps) s ≡ oneMore (byPicks d n ps (stepAt d p s))
+pick-first : (d : Drives) (n p : ℕ) (ps : List ℕ) (s : State) → pickNumber d n p s ≡ 0 → byPicks d n (p ∷ ps) s ≡ oneMore (byPicks d n ps (stepAt d p s))
 unfolding byPicks picksFrom onePick
 pick-first d n p ps s e =
     ap (picksFrom d n ps) (stop (eqb (pickNumber d n p s) 0) _ _ (eq-eqb _ _ e))
@@ -143,16 +143,16 @@ pick-first d n p ps s e =
     one-add k = omega arith
 
 -- the table after a step
-after-step : (d : Drive) (p : ℕ) (s : State) (P : List Record → Type 0) → P (stepAt d p s .table) → P (set (s .table) p (stepped (getD (s .table) p noRecord)))
+after-step : (d : Drives) (p : ℕ) (s : State) (P : List Record → Type 0) → P (stepAt d p s .table) → P (set (s .table) p (stepped (getD (s .table) p noRecord)))
 unfolding stepAt
 after-step d p s P h = h
 
-no-pick : (d : Drive) (n : ℕ) (s : State) → byPicks d n [] s ≡ atStart s
+no-pick : (d : Drives) (n : ℕ) (s : State) → byPicks d n [] s ≡ atStart s
 unfolding byPicks picksFrom
 no-pick d n s = refl
 
 -- with one step of budget more, where the rest of it is known to be picks
-one-more-pick : (d : Drive) (n b : ℕ) (s : State) → runNumber d n s ≡ 0
+one-more-pick : (d : Drives) (n b : ℕ) (s : State) → runNumber d n s ≡ 0
     → ((u : State) → runNumber d n u ≡ 0 → asWritten d n b u ≡ byPicks d n (writtenPicks n b (u .table)) u)
     → asWritten d n (suc b) s ≡ byPicks d n (writtenPicks n (suc b) (s .table)) s
 unfolding writtenPicks

@@ -8,10 +8,10 @@ use mathlib.Core.Bool.{Bool, true, false, _||_, cond}
 use mathlib.Core.List.{List, [], _∷_, _++_, map}
 use lib.Dec.{eqb}
 use borrow.Author.Tests.{ltb-false}
-use Rattle.meaning.specs.declared.Drive.{Drive}
+use Rattle.meaning.specs.Drives.{Drives}
 use Rattle.meaning.specs.declared.Record.{Record}
 use Rattle.meaning.specs.Each.{someOf}
-use Rattle.meaning.specs.Store.{memory, disk, same, Store, theUnit, Area, area, Move, copy, post}
+use Rattle.meaning.specs.Store.{memory, disk, same, Store, Area, area, Move, copy, post}
 use Rattle.meaning.specs.Sectors.{sectorBytes}
 use Rattle.meaning.specs.Ranges.{Range, bytes, sectorsOf, crosses, overlap, meet}
 use Rattle.meaning.specs.Command.{reads, writes, stepsOf, remaining}
@@ -110,7 +110,7 @@ part-lies r k p h w = go (means-eq (p .many) 0)
     go (holds e) = nothing (inSector r k p) e
     go (fails n) =
         let q = w (omega arith) in
-        oneOf theUnit (r .sector + k) (p .at - sectorBytes * k) (p .many) (r .sector) (r .count) (omega arith) (omega arith) (omega arith)
+        oneOf (r .unit) (r .sector + k) (p .at - sectorBytes * k) (p .many) (r .sector) (r .count) (omega arith) (omega arith) (omega arith)
 
 pieces-lie : (r : Record) (k : ℕ) (rs : List Range) (b : ℕ) → k < r .count → All OfMemory rs
     → All (PieceOf r k rs) (piecesOf rs b (sectorBytes * k) (sectorBytes * k + sectorBytes))
@@ -139,12 +139,12 @@ sector-keeps true wr r k h =
     (λ p i. record { written = inside-left (inMemory p) (statusBytes r ∷ []) (i .piece); read = (here (i .part), tt) })
     (piecesAt r k) (pieces-lie r k (dataBytes r) 0 h (data-memory r))
 sector-keeps false true r k h =
-    all-moves (byWrite r) (λ p. copy (inMemory p) (disk theUnit) (inSector r k p .from)) (PieceOf r k (dataBytes r))
+    all-moves (byWrite r) (λ p. copy (inMemory p) (disk (r .unit)) (inSector r k p .from)) (PieceOf r k (dataBytes r))
     (λ p i. record { written = here (i .part); read = (i .piece, tt) })
     (piecesAt r k) (pieces-lie r k (dataBytes r) 0 h (data-memory r))
 sector-keeps false false r k h = tt
 
-close-keeps : (rd wr : Bool) (d : Drive) (r : Record) → KeepsTo (touchedBy rd wr r) (post memory (r .iopb) (closing d r))
+close-keeps : (rd wr : Bool) (d : Drives) (r : Record) → KeepsTo (touchedBy rd wr r) (post memory (r .iopb) (closing d r))
 unfolding closing
 close-keeps true wr d r = record { written = inside-right (area memory (r .iopb) 4) (dataBytes r) (here (status-lies r)); read = tt }
 close-keeps false true d r = record { written = there (here (status-lies r)); read = tt }
@@ -154,7 +154,7 @@ all-cond : (P : Move → Type 0) (b : Bool) (vs : List Move) → All P vs → Al
 all-cond P true vs h = h
 all-cond P false vs h = tt
 
-step-keeps : (d : Drive) (r : Record) → r .taken < stepsOf r → All (KeepsTo (touched r)) (stepMoves d r)
+step-keeps : (d : Drives) (r : Record) → r .taken < stepsOf r → All (KeepsTo (touched r)) (stepMoves d r)
 unfolding stepsOf touched stepMoves sectorMove closeMove
 step-keeps d r h =
     all-append (KeepsTo (touched r)) (sectorMove r (r .taken)) (cond (eqb (r .taken + 1) (stepsOf r)) (closeMove d r) [])
@@ -163,7 +163,7 @@ step-keeps d r h =
 
 -- ---- steps
 
-pub step-comm : (d : Drive) (r q : Record) (s : Store) → 0 < remaining r → 0 < remaining q → conflict r q ≡ false
+pub step-comm : (d : Drives) (r q : Record) (s : Store) → 0 < remaining r → 0 < remaining q → conflict r q ≡ false
     → step d r (step d q s) ≡ step d q (step d r s)
 unfolding step conflict remaining
 step-comm d r q s h k e =

@@ -9,7 +9,7 @@ use mathlib.Core.List.{List, [], _∷_}
 use lib.ListN.{length}
 use lib.Dec.{eqb}
 use borrow.Author.Tests.{eqb-true}
-use Rattle.meaning.specs.declared.Drive.{Drive}
+use Rattle.meaning.specs.Drives.{Drives}
 use Rattle.meaning.specs.State.{State}
 use Rattle.meaning.specs.Pick.{pickNumber, stepAt}
 use Rattle.meaning.specs.Run.{stepsLeft, Tally, atStart, onePick, picksFrom, byPicks}
@@ -17,14 +17,14 @@ use Rattle.meaning.proofs.Numbers.{Free, place-free, Passed, pick-passed, in-ta
 use Rattle.meaning.proofs.Counts.{left-step}
 
 -- a tally after an accepted pick, and after a refused one
-abbrev pub stepTaken : Drive → ℕ → Tally → Tally
+abbrev pub stepTaken : Drives → ℕ → Tally → Tally
 stepTaken d p y = record { steps = y .steps + 1; refused = y .refused; state = stepAt d p (y .state) }
 
 abbrev pub passedOver : Tally → Tally
 passedOver y = record { steps = y .steps; refused = y .refused + 1; state = y .state }
 
 -- Q k y: the tally y after k picks
-module _ (d : Drive) (n : ℕ) (Q : ℕ → Tally → Type 0)
+module _ (d : Drives) (n : ℕ) (Q : ℕ → Tally → Type 0)
     (taken : (k p : ℕ) (y : Tally) → Passed d n (y .state) → Free (y .state .table) n p → Q k y → Q (suc k) (stepTaken d p y))
     (passed : (k : ℕ) (y : Tally) → Q k y → Q (suc k) (passedOver y)) where
   pick-keeps : (k p : ℕ) (y : Tally) → Q k y → Q (suc k) (onePick d n p y)
@@ -53,7 +53,7 @@ module _ (d : Drive) (n : ℕ) (Q : ℕ → Tally → Type 0)
 abbrev pub before : ℕ → ℕ → Tally → Tally
 before k j y = record { steps = k + y .steps; refused = j + y .refused; state = y .state }
 
-before-pick : (d : Drive) (n p k j : ℕ) (y : Tally) → onePick d n p (before k j y) ≡ before k j (onePick d n p y)
+before-pick : (d : Drives) (n p k j : ℕ) (y : Tally) → onePick d n p (before k j y) ≡ before k j (onePick d n p y)
 unfolding onePick
 before-pick d n p k j y = go (eqb (pickNumber d n p (y .state)) 0)
   where
@@ -61,7 +61,7 @@ before-pick d n p k j y = go (eqb (pickNumber d n p (y .state)) 0)
     go true = λ i. record { steps = add-assoc k (y .steps) 1 i; refused = j + y .refused; state = stepAt d p (y .state) }
     go false = λ i. record { steps = k + y .steps; refused = add-assoc j (y .refused) 1 i; state = y .state }
 
-pub before-picks : (d : Drive) (n : ℕ) (ps : List ℕ) (k j : ℕ) (y : Tally) → picksFrom d n ps (before k j y) ≡ before k j (picksFrom d n ps y)
+pub before-picks : (d : Drives) (n : ℕ) (ps : List ℕ) (k j : ℕ) (y : Tally) → picksFrom d n ps (before k j y) ≡ before k j (picksFrom d n ps y)
 unfolding picksFrom
 before-picks d n [] k j y = refl
 before-picks d n (p ∷ ps) k j y = ap (picksFrom d n ps) (before-pick d n p k j y) ∙ before-picks d n ps k j (onePick d n p y)
@@ -69,13 +69,13 @@ before-picks d n (p ∷ ps) k j y = ap (picksFrom d n ps) (before-pick d n p k j
 -- ---- counts after a run
 
 -- the steps that picks take, and those that then remain, are those that remained before
-pub of-picks : (d : Drive) (n : ℕ) (ps : List ℕ) (s : State) → let y = byPicks d n ps s in y .steps + stepsLeft (y .state .table) n ≡ stepsLeft (s .table) n
+pub of-picks : (d : Drives) (n : ℕ) (ps : List ℕ) (s : State) → let y = byPicks d n ps s in y .steps + stepsLeft (y .state .table) n ≡ stepsLeft (s .table) n
 of-picks d n ps s =
     picks-keep d n (λ k y. y .steps + stepsLeft (y .state .table) n ≡ stepsLeft (s .table) n)
     (λ k p y h f q. omega (arith, left-step d n p (y .state) (in-table d n (y .state) h) f)) (λ k y q. q) ps s (omega arith)
 
 -- each pick is a step or a refusal
-pub every-pick : (d : Drive) (n : ℕ) (ps : List ℕ) (s : State) → let y = byPicks d n ps s in y .steps + y .refused ≡ length ps
+pub every-pick : (d : Drives) (n : ℕ) (ps : List ℕ) (s : State) → let y = byPicks d n ps s in y .steps + y .refused ≡ length ps
 every-pick d n ps s =
     let e = picks-keep d n (λ k y. y .steps + y .refused ≡ k) (λ k p y h f q. omega arith) (λ k y q. omega arith) ps s refl in
     omega arith

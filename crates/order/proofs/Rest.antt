@@ -9,7 +9,7 @@ use mathlib.Core.List.{List, [], _∷_, _++_}
 use lib.ListN.{length, getD, set, take, drop}
 use lib.Seq.{length-take-le, take-set-lt, drop-set-lt, getD-take, take-take}
 use borrow.Author.Tests.{eq-eqb}
-use Rattle.meaning.specs.declared.Drive.{Drive}
+use Rattle.meaning.specs.Drives.{Drives}
 use Rattle.meaning.specs.declared.Record.{Record}
 use Rattle.meaning.specs.Each.{someOf, sumOf}
 use Rattle.meaning.specs.Store.{Store}
@@ -34,15 +34,15 @@ use Rattle.order.proofs.Written.{written-cons}
 -- ---- a run as written whose budget suffices
 
 -- the heart's `finish` on records and stores
-abbrev finishAll : Drive → List Record → Store → List Record × Store
+abbrev finishAll : Drives → List Record → Store → List Record × Store
 finishAll d = finish (step d) stepped remaining
 
-after-is : (d : Drive) (k : ℕ) (r : Record) → advanced k r ≡ after (step d) stepped remaining k r
+after-is : (d : Drives) (k : ℕ) (r : Record) → advanced k r ≡ after (step d) stepped remaining k r
 unfolding advanced
 after-is d zero r = refl
 after-is d (suc k) r = after-is d k (stepped r)
 
-done-is : (d : Drive) (k : ℕ) (r : Record) (s : Store) → stepsDone d k r s ≡ done (step d) stepped remaining k r s
+done-is : (d : Drives) (k : ℕ) (r : Record) (s : Store) → stepsDone d k r s ≡ done (step d) stepped remaining k r s
 unfolding stepsDone
 done-is d zero r s = refl
 done-is d (suc k) r s = done-is d k (stepped r) (step d r s)
@@ -51,7 +51,7 @@ done-is d (suc k) r s = done-is d k (stepped r) (step d r s)
 abbrev ended : Tally → List Record × Store
 ended y = (y .state .table, y .state .store)
 
-written-finish : (d : Drive) (b : ℕ) (t : List Record) (s : Store) → sumOf remaining t ≤ b → ended (written d b t s) ≡ finishAll d t s
+written-finish : (d : Drives) (b : ℕ) (t : List Record) (s : Store) → sumOf remaining t ≤ b → ended (written d b t s) ≡ finishAll d t s
 unfolding written
 written-finish d b [] s h = refl
 written-finish d b (r ∷ rs) s h =
@@ -65,14 +65,14 @@ abbrev joined : List Record → List Record × Store → State
 joined more e = record { table = e .0 ++ more; store = e .1 }
 
 -- all that is left, done as written
-abbrev all-done : Drive → ℕ → State → State
+abbrev all-done : Drives → ℕ → State → State
 all-done d n s = joined (drop n (s .table)) (finishAll d (take n (s .table)) (s .store))
 
-as-written-finish : (d : Drive) (n b : ℕ) (s : State) → stepsLeft (s .table) n ≤ b → asWritten d n b s .state ≡ all-done d n s
+as-written-finish : (d : Drives) (n b : ℕ) (s : State) → stepsLeft (s .table) n ≤ b → asWritten d n b s .state ≡ all-done d n s
 unfolding asWritten stepsLeft
 as-written-finish d n b s h = ap (joined (drop n (s .table))) (written-finish d b (take n (s .table)) (s .store) h)
 
-rest-finish : (d : Drive) (n : ℕ) (s : State) → runNumber d n s ≡ 0 → rest d n s ≡ all-done d n s
+rest-finish : (d : Drives) (n : ℕ) (s : State) → runNumber d n s ≡ 0 → rest d n s ≡ all-done d n s
 unfolding rest ranTo
 rest-finish d n s e =
     ap (λ (y : Tally). y .state) (stop _ _ _ (eq-eqb _ _ e))
@@ -83,14 +83,14 @@ larger-does-no-more d n b s e h = as-written-finish d n b s h ∙ sym (rest-fini
 
 -- ---- an accepted pick
 
-clear : (d : Drive) (c : Record) (es : List Record) → someOf (λ e. not (finished e) && conflict e c) es ≡ false
+clear : (d : Drives) (c : Record) (es : List Record) → someOf (λ e. not (finished e) && conflict e c) es ≡ false
     → Clear (step d) stepped remaining conflict c es
 clear d c [] w = tt
 clear d c (e ∷ es) w =
     let h = or-false (not (finished e) && conflict e c) (someOf (λ q. not (finished q) && conflict q c) es) w in
     (λ l. and-false (not (finished e)) (conflict e c) (h .0) (ap not (some-unfinished e l)), clear d c es (h .1))
 
-finish-pick : (d : Drive) (n p : ℕ) (t : List Record) (s : Store) → n ≤ length t → Free t n p
+finish-pick : (d : Drives) (n p : ℕ) (t : List Record) (s : Store) → n ≤ length t → Free t n p
     → let r = getD t p noRecord in
     finishAll d (take n t) s ≡ finishAll d (take n (set t p (stepped r))) (step d r s)
 unfolding waits
@@ -104,13 +104,13 @@ finish-pick d n p t s l f =
     (rw g (unfinished-some r (f .unfinished)))
     (rw (g, take-take p n t (omega arith)) (clear d r (take p t) (f .first))))
 
-done-step : (d : Drive) (n p : ℕ) (s : State) → n ≤ length (s .table) → Free (s .table) n p → all-done d n (stepAt d p s) ≡ all-done d n s
+done-step : (d : Drives) (n p : ℕ) (s : State) → n ≤ length (s .table) → Free (s .table) n p → all-done d n (stepAt d p s) ≡ all-done d n s
 unfolding stepAt
 done-step d n p s l f =
     let r = getD (s .table) p noRecord in
     ap₂ joined (drop-set-lt n (s .table) p (stepped r) (f .inUse)) (sym (finish-pick d n p (s .table) (s .store) l f))
 
-rest-step : (d : Drive) (n p : ℕ) (s : State) → Passed d n s → Free (s .table) n p → rest d n (stepAt d p s) ≡ rest d n s
+rest-step : (d : Drives) (n p : ℕ) (s : State) → Passed d n s → Free (s .table) n p → rest d n (stepAt d p s) ≡ rest d n s
 rest-step d n p s h f =
     rest-finish d n (stepAt d p s) (passed-run d n (stepAt d p s) (passed-step d n p s (free-place (s .table) n p f) h))
     ∙ done-step d n p s (in-table d n s h) f
@@ -118,11 +118,11 @@ rest-step d n p s h f =
 
 -- ---- any picks
 
-pub picks-then-rest : (d : Drive) (n : ℕ) (ps : List ℕ) (s : State) → rest d n (byPicks d n ps s .state) ≡ rest d n s
+pub picks-then-rest : (d : Drives) (n : ℕ) (ps : List ℕ) (s : State) → rest d n (byPicks d n ps s .state) ≡ rest d n s
 picks-then-rest d n ps s =
     picks-keep d n (λ k y. rest d n (y .state) ≡ rest d n s) (λ k p y h f q. rest-step d n p (y .state) h f ∙ q) (λ k y q. q) ps s refl
 
 -- picks leave a state that 1 and 9 let pass
-pub picks-accepted : (d : Drive) (n : ℕ) (ps : List ℕ) (s : State) → Passed d n s → Passed d n (byPicks d n ps s .state)
+pub picks-accepted : (d : Drives) (n : ℕ) (ps : List ℕ) (s : State) → Passed d n s → Passed d n (byPicks d n ps s .state)
 picks-accepted d n ps s h =
     picks-keep d n (λ k y. Passed d n (y .state)) (λ k p y z f q. passed-step d n p (y .state) (free-place (y .state .table) n p f) z) (λ k y q. q) ps s h

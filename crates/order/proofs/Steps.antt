@@ -7,7 +7,7 @@ use mathlib.Core.Bool.{true}
 use mathlib.Core.List.{List}
 use lib.ListN.{length, take}
 use borrow.Author.Tests.{eqb-true, eq-eqb}
-use Rattle.meaning.specs.declared.Drive.{Drive}
+use Rattle.meaning.specs.Drives.{Drives}
 use Rattle.meaning.specs.declared.Ran.{Ran}
 use Rattle.meaning.specs.State.{State}
 use Rattle.meaning.specs.Run.{stepsLeft, allFinished, runNumber, Tally, byPicks, asWritten, ranTo, runReply, RunGives}
@@ -27,7 +27,7 @@ none-left t n =
     (λ f. eqb-true (stepsLeft t n) 0 (sym e ∙ f), λ z. e ∙ eq-eqb (stepsLeft t n) 0 z)
 
 -- picks finish all commands exactly if they take all the steps that remained
-finished-picks : (d : Drive) (n : ℕ) (ps : List ℕ) (s : State)
+finished-picks : (d : Drives) (n : ℕ) (ps : List ℕ) (s : State)
     → let y = byPicks d n ps s in (allFinished (y .state .table) n ≡ true) ↔ (y .steps ≡ stepsLeft (s .table) n)
 finished-picks d n ps s =
     let y = byPicks d n ps s in
@@ -37,15 +37,15 @@ finished-picks d n ps s =
 
 -- ---- as written
 
-no-refusal : (d : Drive) (n b : ℕ) (s : State) → asWritten d n b s .refused ≡ 0
+no-refusal : (d : Drives) (n b : ℕ) (s : State) → asWritten d n b s .refused ≡ 0
 unfolding asWritten
 no-refusal d n b s = none-refused d b (take n (s .table)) (s .store)
 
-steps-smaller : (d : Drive) (n b : ℕ) (s : State) → asWritten d n b s .steps ≡ min b (stepsLeft (s .table) n)
+steps-smaller : (d : Drives) (n b : ℕ) (s : State) → asWritten d n b s .steps ≡ min b (stepsLeft (s .table) n)
 unfolding asWritten stepsLeft
 steps-smaller d n b s = counts.smaller d b (take n (s .table)) (s .store)
 
-pub finished-written : (d : Drive) (n b : ℕ) (s : State) → runNumber d n s ≡ 0
+pub finished-written : (d : Drives) (n b : ℕ) (s : State) → runNumber d n s ≡ 0
     → (allFinished (asWritten d n b s .state .table) n ≡ true) ↔ (stepsLeft (s .table) n ≤ b)
 finished-written d n b s e =
     let z = rw (← written-is-picks d n b s e) at (finished-picks d n (writtenPicks n b (s .table)) s) in
@@ -55,7 +55,7 @@ finished-written d n b s e =
 -- ---- what they report
 
 -- a run that gives 0 comes to what it says
-module _ (d : Drive) (n : ℕ) (go : State → Tally) (s : State) (r : Ran) (s′ : State) (g : RunGives d n go s r s′) (e : r .number ≡ 0) where
+module _ (d : Drives) (n : ℕ) (go : State → Tally) (s : State) (r : Ran) (s′ : State) (g : RunGives d n go s r s′) (e : r .number ≡ 0) where
   pub passed-run-0 : runNumber d n s ≡ 0
   unfolding RunGives runReply
   passed-run-0 = sym (ap (λ (x : Ran). x .number) (g .0)) ∙ e

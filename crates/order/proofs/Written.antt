@@ -5,7 +5,7 @@ use Prim.Native.Nat.{ℕ, suc, _+_, _-_, _<_, min}
 use native.Mathlib.Nat.{min-zero, sub-zero, suc-min-suc, suc-sub-suc, suc-add, add-suc}
 use mathlib.Core.Bool.{true}
 use mathlib.Core.List.{List, [], _∷_}
-use Rattle.meaning.specs.declared.Drive.{Drive}
+use Rattle.meaning.specs.Drives.{Drives}
 use Rattle.meaning.specs.declared.Record.{Record}
 use Rattle.meaning.specs.Store.{Store}
 use Rattle.meaning.specs.State.{State}
@@ -32,7 +32,7 @@ front-suc k r y = λ i. record { steps = suc-add k (y .steps) i; refused = y .re
 pub front-one-more : (k : ℕ) (r : Record) (y : Tally) → front k r (oneMore y) ≡ oneMore (front k r y)
 front-one-more k r y = λ i. record { steps = add-suc k (y .steps) i; refused = y .refused; state = ahead k r (y .state) }
 
-module _ (d : Drive) (b : ℕ) (r : Record) (rs : List Record) (s : Store) where
+module _ (d : Drives) (b : ℕ) (r : Record) (rs : List Record) (s : Store) where
   pub written-cons : (k : ℕ) → min b (remaining r) ≡ k → written d b (r ∷ rs) s ≡ front k r (written d (b - k) rs (stepsDone d k r s))
   unfolding written
   written-cons k e = ap (λ (j : ℕ). front j r (written d (b - j) rs (stepsDone d j r s))) e
@@ -42,7 +42,7 @@ module _ (d : Drive) (b : ℕ) (r : Record) (rs : List Record) (s : Store) where
   written-finished e =
       written-cons 0 (ap (min b) (finished-none r e) ∙ min-zero b) ∙ ap (λ (j : ℕ). front 0 r (written d j rs s)) (sub-zero b)
 
-pub written-unfinished : (d : Drive) (b : ℕ) (r : Record) (rs : List Record) (s : Store) → 0 < remaining r
+pub written-unfinished : (d : Drives) (b : ℕ) (r : Record) (rs : List Record) (s : Store) → 0 < remaining r
     → written d (suc b) (r ∷ rs) s ≡ oneMore (written d b (stepped r ∷ rs) (step d r s))
 unfolding stepsDone
 written-unfinished d b r rs s h =
@@ -55,7 +55,7 @@ written-unfinished d b r rs s h =
     ∙ sym (ap oneMore (written-cons d b (stepped r) rs (step d r s) k refl))
 
 -- no pick is refused
-pub none-refused : (d : Drive) (b : ℕ) (t : List Record) (s : Store) → written d b t s .refused ≡ 0
+pub none-refused : (d : Drives) (b : ℕ) (t : List Record) (s : Store) → written d b t s .refused ≡ 0
 unfolding written
 none-refused d b [] s = refl
 none-refused d b (r ∷ rs) s = let k = min b (remaining r) in none-refused d (b - k) rs (stepsDone d k r s)

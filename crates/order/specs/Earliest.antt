@@ -4,7 +4,7 @@ use Prim.Native.Nat.{ℕ, _<_}
 use mathlib.Core.Bool.{true, false}
 use mathlib.Core.List.{List}
 use lib.ListN.{getD, take}
-use Rattle.meaning.specs.declared.Drive.{Drive}
+use Rattle.meaning.specs.Drives.{Drives}
 use Rattle.meaning.specs.declared.Record.{Record}
 use Rattle.meaning.specs.Each.{everyOf}
 use Rattle.meaning.specs.State.{State}
@@ -25,9 +25,9 @@ EarliestIsThere = (t : List Record) (n : ℕ) → allFinished t n ≡ false → 
 
 -- no earlier unfinished command can conflict with it: a pick there gets 0
 abbrev pub EarliestNeverWaits : Type 0
-EarliestNeverWaits = (d : Drive) (n p : ℕ) (s : State) → runNumber d n s ≡ 0 → Earliest (s .table) n p → pickNumber d n p s ≡ 0
+EarliestNeverWaits = (d : Drives) (n p : ℕ) (s : State) → runNumber d n s ≡ 0 → Earliest (s .table) n p → pickNumber d n p s ≡ 0
 
 -- The definition of a run as written goes command by command. This says the same pick by pick: it is the run by the picks that it would
 -- take, each of the earliest unfinished command, and none of them is refused.
 abbrev pub WrittenIsPicks : Type 0
-WrittenIsPicks = (d : Drive) (n b : ℕ) (s : State) → runNumber d n s ≡ 0 → asWritten d n b s ≡ byPicks d n (writtenPicks n b (s .table)) s
+WrittenIsPicks = (d : Drives) (n b : ℕ) (s : State) → runNumber d n s ≡ 0 → asWritten d n b s ≡ byPicks d n (writtenPicks n b (s .table)) s

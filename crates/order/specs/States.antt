@@ -4,7 +4,7 @@ use Prim.Native.Nat.{ℕ, zero, suc}
 use mathlib.Core.Bool.{cond}
 use mathlib.Core.List.{List, [], _∷_}
 use lib.ListN.{getD, set}
-use Rattle.meaning.specs.declared.Drive.{Drive}
+use Rattle.meaning.specs.Drives.{Drives}
 use Rattle.meaning.specs.declared.Record.{Record}
 use Rattle.meaning.specs.State.{State}
 use Rattle.meaning.specs.Command.{finished, noRecord}
@@ -26,5 +26,5 @@ writtenPicks n (suc budget) t =
     cond (allFinished t n) [] (p ∷ more)
 
 -- the state after all that is left, done as written; where 1 or 9 is given nothing is done
-unfoldable pub rest : Drive → ℕ → State → State
+unfoldable pub rest : Drives → ℕ → State → State
 rest d n s = ranTo d n (asWritten d n (stepsLeft (s .table) n)) s .state

@@ -5,7 +5,7 @@ use Prim.Native.Nat.{ℕ, zero, suc}
 use mathlib.Core.Bool.{Bool, true, false, cond}
 use mathlib.Core.List.{List, [], _∷_}
 use lib.ListN.{getD, set}
-use Rattle.meaning.specs.declared.Drive.{Drive}
+use Rattle.meaning.specs.Drives.{Drives}
 use Rattle.meaning.specs.State.{State}
 use Rattle.meaning.specs.Command.{noRecord}
 use Rattle.meaning.specs.Step.{stepped}
@@ -20,12 +20,12 @@ use Rattle.promises.specs.Taken.{Along, BySteps, Tried, no-more, accept,
 use Rattle.promises.proofs.Taken.{Accepted, along-map, no-steps, picks-taken}
 
 -- picks that are all accepted are all taken
-tried-all : {d : Drive} {n : ℕ} {s : State} {ps qs : List ℕ} → Along d (Accepted d n) ps s → Tried d n s ps qs → qs ≡ ps
+tried-all : {d : Drives} {n : ℕ} {s : State} {ps qs : List ℕ} → Along d (Accepted d n) ps s → Tried d n s ps qs → qs ≡ ps
 tried-all h no-more = refl
 tried-all h (accept {p} z t) = ap (λ (l : List ℕ). p ∷ l) (tried-all (h .1) t)
 tried-all h (refuse o t) = absurd (o (h .0))
 
-module _ (d : Drive) (n : ℕ) where
+module _ (d : Drives) (n : ℕ) where
   -- an accepted step of the earliest unfinished command
   abbrev First : State → ℕ → Type 0
   First u p = Accepted d n u p × Earliest (u .table) n p

@@ -9,7 +9,7 @@ use mathlib.Core.Bool.{Bool, true, false, not, cond, or-false, Bool·not-not}
 use mathlib.Core.List.{List, [], _∷_, _++_}
 use lib.ListN.{length}
 use lib.Dec.{eqb}
-use Rattle.meaning.specs.declared.Drive.{Drive}
+use Rattle.meaning.specs.Drives.{Drives}
 use Rattle.meaning.specs.declared.Record.{Record}
 use Rattle.meaning.specs.Each.{someOf}
 use Rattle.meaning.specs.Fields.{iopbBytes, allIn, chen, next-address}
@@ -21,16 +21,16 @@ use Rattle.meaning.specs.Conditions.{Shares}
 use Rattle.meaning.proofs.Means.{Means, holds, fails, when-true, when-false, means-iff, means-or, means-not-and, means-above, means-eq, means-other}
 use Rattle.meaning.proofs.Tests.{some-append}
 use Rattle.meaning.proofs.Ranges.{means-shares}
-use Rattle.promises.specs.WalkNumbers.{reached, OutOfMemory, SharesEarlier, Ends, atIopb, Comes, InTurn}
+use Rattle.promises.specs.WalkNumbers.{walkedAt, reached, OutOfMemory, SharesEarlier, Ends, atIopb, Comes, InTurn}
 
 -- what holds below k and at k holds up to k
 pub up-to : (P : ℕ → Type 0) {k : ℕ} → ((j : ℕ) → j < k → P j) → P k → (j : ℕ) → j < suc k → P j
 up-to P {k} below here j h = ⊎-elim (λ e. rw e here) (below j) (eq-or-lt-of-le (le-of-suc-le-suc h))
 
-module _ (m : List ℕ) (d : Drive) (start : ℕ) where
+module _ (m : List ℕ) (d : Drives) (start : ℕ) where
   -- the k-th command's record, and the records of the first k
   abbrev pub recordAt : ℕ → Record
-  recordAt k = recordOf (copiedAt m (reached m start k)) (reached m start k) d m
+  recordAt k = walkedAt d m (reached m start k)
 
   abbrev pub commandsTo : ℕ → List Record
   commandsTo zero = []

@@ -6,14 +6,16 @@ use native.Mathlib.Omega.{arith}
 use mathlib.Core.Bool.{Bool, true, false, cond}
 use lib.ListN.{getD}
 use lib.Dec.{eqb}
-use Rattle.meaning.specs.declared.Drive.{Drive}
+use Rattle.meaning.specs.declared.LentDrives.{LentDrives}
+use Rattle.meaning.specs.Drives.{Drives, mostUnits, noDrive, driveOf, drivesOf}
 use Rattle.meaning.specs.declared.Record.{Record}
 use Rattle.meaning.specs.Fields.{bit}
 use Rattle.meaning.specs.Store.{memory}
 use Rattle.meaning.specs.Walk.{recordOf}
-use Rattle.meaning.specs.Step.{closingByte0, closing, step}
-use Rattle.meaning.proofs.Means.{Means, holds, fails, means-eq}
-use Rattle.promises.specs.Closing.{StatusBytes, ClosingBytes, ByteThreeExactlyWhen}
+use Rattle.meaning.specs.Step.{closingByte0, driveStatus, closing, step}
+use Rattle.meaning.proofs.Means.{Means, holds, fails, means-iff, means-itself, means-lt, means-eq}
+use Rattle.promises.specs.AbsentUnits.{lentFor}
+use Rattle.promises.specs.Closing.{StatusBytes, ClosingBytes, ThereAndProtected, ByteTwoExactlyWhen, ByteThreeExactlyWhen}
 use Rattle.promises.proofs.Fitted.{fitted-exactly-when}
 use Rattle.promises.proofs.StepMoves.{step-moves-one}
 
@@ -67,12 +69,12 @@ module _ (r : Record) where
       go false = refl
 
 -- bytes that agree with the close's
-module _ (d : Drive) (r : Record) (byte : ℕ → ℕ) (same : (j : ℕ) → j < 4 → byte j ≡ getD (closing d r) j 0) where
+module _ (d : Drives) (r : Record) (byte : ℕ → ℕ) (same : (j : ℕ) → j < 4 → byte j ≡ getD (closing d r) j 0) where
   byte-0 : byte 0 ≡ r .byte0 % 64 + 64 + 128 * errsOf r
   unfolding closing
   byte-0 = same 0 (omega arith) ∙ closing-byte-0 r
 
-  byte-2 : byte 2 ≡ cond (d .protected) 0x13 0x03
+  byte-2 : byte 2 ≡ driveStatus (d .on (r .unit))
   unfolding closing
   byte-2 = same 2 (omega arith)
 
@@ -94,9 +96,33 @@ module _ (d : Drive) (r : Record) (byte : ℕ → ℕ) (same : (j : ℕ) → j <
 pub closing-bytes : ClosingBytes
 closing-bytes d r s may last = status-bytes d r (λ j. getD (step d r s memory) (r .iopb + j) 0) (step-moves-one d r s may .posted last)
 
+-- the drive of a unit is protected exactly where one is lent for it that is there and protected: an absent unit counts as open
+means-protected : (l : LentDrives) (u : ℕ) → Means (ThereAndProtected l u) (driveOf l u .protected)
+unfolding driveOf
+means-protected l u = go (means-lt u mostUnits) (means-itself (lentFor l u .present))
+  where
+    go : {x y : Bool} → Means (u < mostUnits) x → Means (lentFor l u .present ≡ true) y
+        → Means (ThereAndProtected l u) (cond x (cond y (lentFor l u) noDrive) noDrive .protected)
+    go (holds p) (holds q) = means-iff ((λ t. (p, (q, t))), λ h. h .1 .1) (means-itself (lentFor l u .protected))
+    go (holds p) (fails n) = fails (λ h. n (h .1 .0))
+    go (fails n) y = fails (λ h. n (h .0))
+
+pub byte-two-exactly-when : ByteTwoExactlyWhen
+byte-two-exactly-when l r s may last =
+    let b = closing-bytes (drivesOf l) r s may last in
+    go (means-protected l (r .unit)) (b .unprotected) (b .protected)
+  where
+    byte2 : ℕ
+    byte2 = getD (step (drivesOf l) r s memory) (r .iopb + 2) 0
+
+    go : {z : Bool} → Means (ThereAndProtected l (r .unit)) z → (z ≡ false → byte2 ≡ 0x03) → (z ≡ true → byte2 ≡ 0x13)
+        → ((byte2 ≡ 0x13) ↔ ThereAndProtected l (r .unit)) × ((byte2 ≡ 0x03) ↔ (¬ ThereAndProtected l (r .unit)))
+    go (holds p) f g = (((λ _. p), λ _. g refl), ((λ e. absurd (omega (arith, e, g refl))), λ n. absurd (n p)))
+    go (fails n) f g = (((λ e. absurd (omega (arith, e, f refl))), λ p. absurd (n p)), ((λ _. n), λ _. f refl))
+
 pub byte-three-exactly-when : ByteThreeExactlyWhen
 unfolding recordOf
 byte-three-exactly-when c a m d r s same may last N =
     let byte3 = closing-bytes d r s may last .internal ∙ same in
-    let exactly = fitted-exactly-when c d m N in
+    let exactly = fitted-exactly-when c (d .on (c .unit)) m N in
     ((λ e. exactly .0 (sym byte3 ∙ e)), λ t. byte3 ∙ exactly .1 t)

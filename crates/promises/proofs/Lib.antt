@@ -11,6 +11,7 @@ pub mod Looks
 pub mod Numbering
 pub mod Widths
 pub mod Views
+pub mod AbsentUnits
 pub mod Refused
 -- demand 2: what one step moves, and what many do
 pub mod Bytes
@@ -22,5 +23,6 @@ pub mod Taken
 pub mod AsWritten
 pub mod WrittenThenRead
 pub mod OneRange
+pub mod AsBefore
 -- and, since steps keep lengths, one reply
 pub mod OneReply

@@ -1,39 +1,47 @@
 -- The numbers of picks, runs, looks and viewers, and the codes, are given exactly when their tables say: the one law of tables, applied to
 -- each.
-use mathlib.Core.Path.{_≡_}
-use mathlib.Core.Logic.{_↔_, inl, inr}
+use mathlib.Core.Path.{_≡_, refl, sym, _∙_}
+use mathlib.Core.Logic.{_↔_, _≢_, _⊎_, inl, inr}
 use Prim.Native.Nat.{ℕ, _+_, _*_, _%_, _≤_, _<_}
 use native.Mathlib.Omega.{arith}
-use mathlib.Core.Bool.{Bool, cond}
+use mathlib.Core.Bool.{Bool, true, false, not, cond, true≢false}
 use mathlib.Core.List.{List, [], _∷_, _++_, map}
 use lib.ListN.{length, getD}
 use lib.Dec.{ltb}
 use Rattle.meaning.specs.declared.Drive.{Drive}
+use Rattle.meaning.specs.Drives.{Drives}
 use Rattle.meaning.specs.declared.Copied.{Copied}
-use Rattle.meaning.specs.Store.{Store, theUnit}
+use Rattle.meaning.specs.declared.Link.{Link}
+use Rattle.meaning.specs.declared.Record.{Record}
+use Rattle.meaning.specs.Store.{memory, disk, Store}
 use Rattle.meaning.specs.State.{State}
+use Rattle.meaning.specs.First.{firstOf}
 use Rattle.meaning.specs.Sectors.{sectorBytes, maximumOn, sectorCount, largestSector}
 use Rattle.meaning.specs.Fields.{iopbBytes, bit}
 use Rattle.meaning.specs.Look.{lookNumber}
 use Rattle.meaning.specs.View.{madeNumber, viewOf}
-use Rattle.meaning.specs.Links.{linkBytes, bytesIn}
+use Rattle.meaning.specs.Links.{linkBytes, rangesOf, bytesIn}
 use Rattle.meaning.specs.Code.{nop, write, read, commandIn, firstSector, linkCount, linksIn, commandRows, transferRows, dataRows, codeOf}
-use Rattle.meaning.specs.Command.{noRecord}
+use Rattle.meaning.specs.Command.{listed, linksOf, noRecord}
 use Rattle.meaning.specs.Pick.{placeNumber, pickNumber, PickGives}
 use Rattle.meaning.specs.Run.{runNumber, runReply, RunGives}
-use Rattle.meaning.specs.Table.{Given, _⇒_}
-use Rattle.meaning.proofs.Means.{Means, holds, fails, when-true, is-true, means-iff, means-itself, means-and, means-or₃, means-lt, means-le, means-above, means-eq, means-other, means-of}
+use Rattle.meaning.specs.Table.{Given, _⇒_, NoneOf}
+use Rattle.meaning.specs.Conditions.{LiesIn, SomeOf, Absent, ReadsAt, WritesAt, Disturbs, Conflict}
+use Rattle.meaning.proofs.Means.{Means, holds, fails, when-true, when-false, is-true, is-false, means-iff, means-itself, means-and, means-or₃, means-lt, means-le, means-above, means-eq, means-other, means-of}
+use Rattle.meaning.proofs.All.{All}
+use Rattle.meaning.proofs.Numbers.{Off, rows-but, off-last}
 use Rattle.meaning.proofs.Table.{otherwise, _&_, by-number, by-place, Asked, no-more, _and_, with-numbers}
-use Rattle.meaning.proofs.Conditions.{some-sector, means-image, means-sizes, means-finished, means-outside, means-spoiled}
+use Rattle.meaning.proofs.Conditions.{some-sector, means-absent, means-images, means-sizes, means-finished, means-outside, means-spoiled}
+use Rattle.meaning.proofs.Ranges.{means-same}
 use Rattle.meaning.proofs.Conflict.{means-conflict, means-waits}
-use Rattle.promises.specs.PickNumbers.{pickTable, runTable, PickExactlyWhen, RunExactlyWhen, ConflictExactlyWhen}
+use Rattle.promises.specs.PickNumbers.{pickTable, runTable, PickExactlyWhen, RunExactlyWhen, ConflictExactlyWhen, MeetInMemory, ConflictOfTwoUnits}
 use Rattle.promises.specs.Looks.{LookExactlyWhen}
 use Rattle.promises.specs.Views.{viewTable, ViewExactlyWhen}
-use Rattle.promises.specs.Codes.{SectorAbove, Data, commandTable, transferTable, listTable, PastMemory, CodeExactlyWhen}
+use Rattle.promises.specs.Codes.{SectorAbove, Data, commandTable, transferTable, listTable, PastMemory, CodeExactlyWhen, NotReadyExactlyWhen}
 
 -- ---- picks and runs
 
-module _ (d : Drive) (n : ℕ) where
+module _ (d : Drives) (n : ℕ) where
   pub pick-number-exactly-when : (p : ℕ) (s : State) (N : ℕ) → (pickNumber d n p s ≡ N) ↔ Given (pickTable d n p s) N
   unfolding pickNumber placeNumber
   pick-number-exactly-when p s =
@@ -61,6 +69,40 @@ run-exactly-when N d n go s r s′ g = rw (g .0) (run-number-exactly-when d n s 
 pub conflict-exactly-when : ConflictExactlyWhen
 conflict-exactly-when r s = (when-true (means-conflict r s), is-true (means-conflict r s))
 
+-- the data of a command lies in memory, so what it touches of a disk is its sectors, and that disk is its unit's own
+no-data-there : (b : Bool) (a n : ℕ) (xs : List Link) (u x : ℕ) → ¬ SomeOf (λ y. LiesIn y (disk u) x) (rangesOf b a n xs)
+no-data-there true a n [] u x h = h
+no-data-there true a n (y ∷ xs) u x (inl h) = when-false (means-same (disk u) memory) refl (h .0)
+no-data-there true a n (y ∷ xs) u x (inr h) = no-data-there true a n xs u x h
+no-data-there false a n xs u x (inl h) = when-false (means-same (disk u) memory) refl (h .0)
+no-data-there false a n xs u x (inr h) = h
+
+module _ (r : Record) (u x : ℕ) where
+  writes-own : WritesAt r (disk u) x → u ≡ r .unit
+  writes-own (inl h) = absurd (no-data-there (listed r) (r .address) (r .count) (linksOf r) u x (h .1))
+  writes-own (inr (inl h)) = let e = h .1 .0 in cc
+  writes-own (inr (inr h)) = absurd (when-false (means-same (disk u) memory) refl (h .0))
+
+  touches-own : ReadsAt r (disk u) x ⊎ WritesAt r (disk u) x → u ≡ r .unit
+  touches-own (inl (inl h)) = absurd (no-data-there (listed r) (r .address) (r .count) (linksOf r) u x (h .1))
+  touches-own (inl (inr h)) = let e = h .1 .0 in cc
+  touches-own (inr h) = writes-own h
+
+pub conflict-of-two-units : ConflictOfTwoUnits
+conflict-of-two-units r s other = ((λ e. there (when-true (means-conflict r s) e)), λ h. is-true (means-conflict r s) (back h))
+  where
+    apart : (q t : Record) → q .unit ≢ t .unit → Disturbs q t → (x : ℕ) × WritesAt q memory x × (ReadsAt t memory x ⊎ WritesAt t memory x)
+    apart q t n (memory, x, w, h) = (x, w, h)
+    apart q t n (disk u, x, w, h) = absurd (n (sym (writes-own q u x w) ∙ touches-own t u x h))
+
+    there : Conflict r s → MeetInMemory r s
+    there (inl h) = let m = apart r s other h in (m .0, inl (m .1, m .2))
+    there (inr h) = let m = apart s r (λ e. other (sym e)) h in (m .0, inr (m .1, m .2))
+
+    back : MeetInMemory r s → Conflict r s
+    back (x, inl h) = inl (memory, x, h .0, h .1)
+    back (x, inr h) = inr (memory, x, h .0, h .1)
+
 -- ---- looks and viewers
 
 -- a largest sector number is one less than the number of sectors, of which there is one at least
@@ -68,9 +110,9 @@ pub no-such-sector : (d : Drive) (n : ℕ) → Means (sectorCount d ≤ n) (ltb 
 unfolding largestSector
 no-such-sector d n = let z = some-sector d in means-iff (omega arith) (means-lt (largestSector d) n)
 
-pub look-exactly-when : (d : Drive) (n : ℕ) (s : Store) (N : ℕ) → LookExactlyWhen d n s N
+pub look-exactly-when : (d : Drives) (u n : ℕ) (s : Store) (N : ℕ) → LookExactlyWhen d u n s N
 unfolding lookNumber
-look-exactly-when d n s = by-number (means-image d s & no-such-sector d n & otherwise) tt
+look-exactly-when d u n s = by-number (means-images d s & means-absent d u & no-such-sector (d .on u) n & otherwise) tt
 
 view-number-exactly-when : (m : List ℕ) (a N : ℕ) → (madeNumber m a ≡ N) ↔ Given (viewTable m a) N
 unfolding madeNumber
@@ -98,6 +140,11 @@ means-sector-above d c = go (means-eq (c .head) (d .head))
         above (inl l) = absurd (n (l .0))
         above (inr l) = l .1
 
+-- a mark that is not set
+means-off : (b : Bool) → Means (b ≡ false) (not b)
+means-off true = fails (λ e. true≢false e)
+means-off false = holds refl
+
 -- what a command is asked, each test beside what it means; its codes are given by these questions, and so is what is told beside them
 module _ (c : Copied) (d : Drive) (m : List ℕ) where
   abbrev tests : List Bool
@@ -111,7 +158,7 @@ module _ (c : Copied) (d : Drive) (m : List ℕ) where
       means-and (means-eq (bit 5 (c .byte0)) 1) (means-eq (c .next % 2) 1)
       and means-or₃ (means-lt read (commandIn (c .byte0))) (means-and (means-eq (bit 4 (c .byte0)) 1) (means-eq (commandIn (c .byte0)) nop)) (means-other (c .subfunction) 0)
       and means-eq (commandIn (c .byte0)) nop
-      and means-other (c .unit) theUnit
+      and means-off (d .present)
       and means-eq (c .count) 0
       and means-lt (d .cylinder) (c .cylinder)
       and means-lt (d .head) (c .head)
@@ -130,3 +177,52 @@ code-exactly-when c d m =
     by-place
     (with-numbers 0 (questions c d m)
     (0x1E ∷ 0x14 ∷ 0x00 ∷ 0x42 ∷ 0x13 ∷ 0x10 ∷ 0x11 ∷ 0x12 ∷ 0x10 ∷ 0x90 ∷ 0x4B ∷ 0x1C ∷ 0x1F ∷ 0x4B ∷ []))
+
+-- 42H is given by no row but that of an absent unit
+module _ (c : Copied) (d : Drive) (m : List ℕ) where
+  -- what every command is asked, beside what the tests of its rows say
+  none-asked : All Off (commandRows c) → NoneOf (commandTable c)
+  none-asked off = go (questions c d m) off
+    where
+      go : Asked (tests c d m) (meanings c d m) → All Off (commandRows c) → NoneOf (commandTable c)
+      go (x and (y and (z and more))) off = (when-false x (off .0), (when-false y (off .1 .0), (when-false z (off .1 .1 .0), tt)))
+
+  asked-none : NoneOf (commandTable c) → All Off (commandRows c)
+  asked-none none = go (questions c d m)
+    where
+      go : Asked (tests c d m) (meanings c d m) → All Off (commandRows c)
+      go (x and (y and (z and more))) = (is-false x (none .0), (is-false y (none .1 .0), (is-false z (none .1 .1 .0), tt)))
+
+  abbrev by-data : ℕ
+  by-data = firstOf (dataRows c (length m) (linksIn m c)) 0
+
+  -- past the row of an absent unit no row gives it
+  other-code : d .present ≡ true → firstOf (transferRows c d) by-data ≢ 0x42
+  other-code here e =
+      let off = rows-but 0x42 (transferRows c d) by-data e (rw here) in
+      let f = sym (off-last (transferRows c d) by-data off) ∙ e in
+      let none = rows-but 0x42 (dataRows c (length m) (linksIn m c)) 0 f refl in
+      let z = sym (off-last (dataRows c (length m) (linksIn m c)) 0 none) ∙ f in
+      omega arith
+
+pub not-ready-exactly-when : NotReadyExactlyWhen
+unfolding codeOf
+not-ready-exactly-when d c m = (there, λ h. back (h .0) (h .1))
+  where
+    on : Drive
+    on = d .on (c .unit)
+
+    code : ℕ
+    code = firstOf (commandRows c) (firstOf (transferRows c on) (by-data c on m))
+
+    there : code ≡ 0x42 → NoneOf (commandTable c) × Absent d (c .unit)
+    there e =
+        let off = rows-but 0x42 (commandRows c) _ e refl in
+        (none-asked c on m off, go (on .present) refl (sym (off-last (commandRows c) _ off) ∙ e))
+      where
+        go : (b : Bool) → on .present ≡ b → firstOf (transferRows c on) (by-data c on m) ≡ 0x42 → on .present ≡ false
+        go true here f = absurd (other-code c on m here f)
+        go false gone f = gone
+
+    back : NoneOf (commandTable c) → Absent d (c .unit) → code ≡ 0x42
+    back none gone = off-last (commandRows c) _ (asked-none c on m none) ∙ rw gone

@@ -14,9 +14,10 @@ use lib.Dec.{eqb}
 use borrow.Author.Tests.{eq-eqb, ne-eqb}
 use Rattle.meaning.specs.declared.Copied.{Copied}
 use Rattle.meaning.specs.declared.Drive.{Drive}
+use Rattle.meaning.specs.Drives.{Drives}
 use Rattle.meaning.specs.declared.Link.{Link}
 use Rattle.meaning.specs.declared.Record.{Record}
-use Rattle.meaning.specs.Store.{Space, memory, disk, theUnit, Store, area, put, Move, copy, post, move, moves}
+use Rattle.meaning.specs.Store.{Space, memory, disk, Store, area, put, Move, copy, post, move, moves}
 use Rattle.meaning.specs.Sectors.{sectorBytes, sectorNumber}
 use Rattle.meaning.specs.Ranges.{bytes, sectorsOf}
 use Rattle.meaning.specs.Links.{linkAt, linksAt, rangeOf, bytesIn}
@@ -26,7 +27,7 @@ use Rattle.meaning.specs.Code.{copiedAt, read, write, commandIn, gathers, first
 use Rattle.meaning.specs.Walk.{recordOf}
 use Rattle.meaning.specs.Command.{reads, writes, stepsOf, remaining}
 use Rattle.meaning.specs.Touch.{dataBytes, touched, disturbs, conflict, Touched}
-use Rattle.meaning.specs.Step.{sectorMove, closingByte0, closing, closeMove, stepMoves, step, stepped}
+use Rattle.meaning.specs.Step.{sectorMove, closingByte0, driveStatus, closing, closeMove, stepMoves, step, withTaken, stepped}
 use Rattle.meaning.specs.Run.{stepsDone}
 use Rattle.meaning.proofs.Overwrite.{sets-comm}
 use Rattle.meaning.proofs.Means.{Means, holds, fails, means-eq}
@@ -36,7 +37,8 @@ use Rattle.meaning.proofs.Records.{remaining-stepped}
 use Rattle.meaning.proofs.Rows.{pass, stop}
 use Rattle.meaning.proofs.Links.{links-kept}
 use Rattle.meaning.proofs.Pieces.{data-plain, data-listed}
-use Rattle.promises.specs.OneRange.{ButSgm, OneRange, StaysOneRange, AlikeBut, OneRangeAsNone, walkedAt, SameButSgm, WalkedSo, OneRangeWalked}
+use Rattle.promises.specs.WalkNumbers.{walkedAt}
+use Rattle.promises.specs.OneRange.{ButSgm, OneRange, StaysOneRange, AlikeBut, OneRangeAsNone, SameButSgm, WalkedSo, OneRangeWalked}
 use Rattle.promises.proofs.Closing.{low-bits, bit-6, bit-7, errsOf, errs-small, closing-byte-0}
 use Rattle.promises.proofs.Fitted.{told-with-two-codes}
 use Rattle.promises.proofs.RangesKept.{read-then, adds-up}
@@ -115,9 +117,9 @@ module _ (r q : Record) (x : Link) (o : OneRange r q x) where
   same-touched =
       λ j.
       cond (same-reads j)
-      (record { read = sectorsOf theUnit (o .same .sector j) (o .same .count j) ∷ []; written = same-data j ++ bytes (o .same .iopb j) 4 ∷ [] })
+      (record { read = sectorsOf (o .same .unit j) (o .same .sector j) (o .same .count j) ∷ []; written = same-data j ++ bytes (o .same .iopb j) 4 ∷ [] })
       (cond (same-writes j)
-      (record { read = same-data j; written = sectorsOf theUnit (o .same .sector j) (o .same .count j) ∷ bytes (o .same .iopb j) 4 ∷ [] })
+      (record { read = same-data j; written = sectorsOf (o .same .unit j) (o .same .sector j) (o .same .count j) ∷ bytes (o .same .iopb j) 4 ∷ [] })
       (record { read = []; written = bytes (o .same .iopb j) 4 ∷ [] }))
 
   same-conflict : (e : Record) → conflict e r ≡ conflict e q
@@ -129,19 +131,23 @@ module _ (r q : Record) (x : Link) (o : OneRange r q x) where
   unfolding sectorMove
   same-sector =
       λ j.
+      let u = o .same .unit j in
       let n = o .same .sector j in
       let k = o .same .taken j in
       let ps = piecesOf (same-data j) 0 (sectorBytes * k) (sectorBytes * k + sectorBytes) in
-      cond (same-reads j) (map (λ (p : Piece). copy (area (disk theUnit) (sectorBytes * (n + k) + (p .at - sectorBytes * k)) (p .many)) memory (p .from)) ps)
-      (cond (same-writes j) (map (λ (p : Piece). copy (area memory (p .from) (p .many)) (disk theUnit) (sectorBytes * (n + k) + (p .at - sectorBytes * k))) ps) [])
+      cond (same-reads j) (map (λ (p : Piece). copy (area (disk u) (sectorBytes * (n + k) + (p .at - sectorBytes * k)) (p .many)) memory (p .from)) ps)
+      (cond (same-writes j) (map (λ (p : Piece). copy (area memory (p .from) (p .many)) (disk u) (sectorBytes * (n + k) + (p .at - sectorBytes * k))) ps) [])
 
   same-last : eqb (r .taken + 1) (stepsOf r) ≡ eqb (q .taken + 1) (stepsOf q)
   same-last = ap₂ (λ (k n : ℕ). eqb (k + 1) n) (o .same .taken) same-steps
 
   -- and the close but for byte 0
-  module _ (d : Drive) where
+  module _ (d : Drives) where
+    abbrev byte2 : ℕ
+    byte2 = driveStatus (d .on (r .unit))
+
     abbrev closes : ℕ → List Move
-    closes b = post memory (r .iopb) (b ∷ r .code ∷ cond (d .protected) 0x13 0x03 ∷ r .fitted ∷ []) ∷ []
+    closes b = post memory (r .iopb) (b ∷ r .code ∷ byte2 ∷ r .fitted ∷ []) ∷ []
 
     close-alike : (u : Store) (b e : ℕ) → ButSgm b e → AlikeBut (r .iopb) (moves (closes b) u) (moves (closes e) u)
     unfolding moves move put
@@ -149,18 +155,18 @@ module _ (r q : Record) (x : Link) (o : OneRange r q x) where
         record {
           sizes = λ p. length-moves (closes b) u p ∙ sym (length-moves (closes e) u p);
           bytes = λ p y n. go p y n (means-same p memory);
-          status = first-but-sgm (u memory) (r .iopb) (r .code ∷ cond (d .protected) 0x13 0x03 ∷ r .fitted ∷ []) b e h;
+          status = first-but-sgm (u memory) (r .iopb) (r .code ∷ byte2 ∷ r .fitted ∷ []) b e h;
         }
       where
         go : (p : Space) (y : ℕ) → ¬ ((p ≡ memory) × (y ≡ r .iopb)) → {z : Bool} → Means (p ≡ memory) z
-            → getD (cond z (sets (u p) (r .iopb) (b ∷ r .code ∷ cond (d .protected) 0x13 0x03 ∷ r .fitted ∷ [])) (u p)) y 0
-            ≡ getD (cond z (sets (u p) (r .iopb) (e ∷ r .code ∷ cond (d .protected) 0x13 0x03 ∷ r .fitted ∷ [])) (u p)) y 0
-        go p y n (holds z) = others-same (u p) (r .iopb) (r .code ∷ cond (d .protected) 0x13 0x03 ∷ r .fitted ∷ []) b e y (λ w. n (z, w))
+            → getD (cond z (sets (u p) (r .iopb) (b ∷ r .code ∷ byte2 ∷ r .fitted ∷ [])) (u p)) y 0
+            ≡ getD (cond z (sets (u p) (r .iopb) (e ∷ r .code ∷ byte2 ∷ r .fitted ∷ [])) (u p)) y 0
+        go p y n (holds z) = others-same (u p) (r .iopb) (r .code ∷ byte2 ∷ r .fitted ∷ []) b e y (λ w. n (z, w))
         go p y n (fails o) = refl
 
     same-close : closeMove d q ≡ closes (closingByte0 q)
     unfolding closeMove closing
-    same-close = λ j. post memory (sym (o .same .iopb) j) (closingByte0 q ∷ sym (o .same .code) j ∷ cond (d .protected) 0x13 0x03 ∷ sym (o .same .fitted) j ∷ []) ∷ []
+    same-close = λ j. post memory (sym (o .same .iopb) j) (closingByte0 q ∷ sym (o .same .code) j ∷ driveStatus (d .on (sym (o .same .unit) j)) ∷ sym (o .same .fitted) j ∷ []) ∷ []
 
     closing-but-sgm : ButSgm (closingByte0 r) (closingByte0 q)
     unfolding errsOf
@@ -204,7 +210,7 @@ module _ (r q : Record) (x : Link) (o : OneRange r q x) where
       open-left h = open-step (sym same-last ∙ ne-eqb (r .taken + 1) (stepsOf r) (λ e. omega arith))
 
 pub stays-one-range : StaysOneRange
-unfolding stepped
+unfolding stepped withTaken
 stays-one-range r q x o =
     record {
       same =
@@ -213,6 +219,7 @@ stays-one-range r q x o =
             sector = o .same .sector;
             taken = ap (λ (k : ℕ). k + 1) (o .same .taken);
             count = o .same .count;
+            unit = o .same .unit;
             byte0 = o .same .byte0;
             code = o .same .code;
             fitted = o .same .fitted;
@@ -226,7 +233,7 @@ stays-one-range r q x o =
 
 -- ---- steps one after another
 
-module _ (d : Drive) (x : Link) where
+module _ (d : Drives) (x : Link) where
   open-steps : (n : ℕ) (r q : Record) → OneRange r q x → (s : Store) → n < remaining r → stepsDone d n r s ≡ stepsDone d n q s
   unfolding stepsDone
   open-steps zero r q o s h = refl
@@ -235,7 +242,7 @@ module _ (d : Drive) (x : Link) where
       ∙ open-steps k (stepped r) (stepped q) (stays-one-range r q x o) (step d q s) (omega (arith, remaining-stepped r (omega arith)))
 
   steps-alike : (n : ℕ) (r q : Record) → OneRange r q x → (s : Store) → n ≤ remaining r → AlikeBut (r .iopb) (stepsDone d n r s) (stepsDone d n q s)
-  unfolding stepsDone stepped
+  unfolding stepsDone stepped withTaken
   steps-alike zero r q o s h = alike-refl (r .iopb) s
   steps-alike (suc zero) r q o s h = step-alike r q x o d s
   steps-alike (suc (suc k)) r q o s h =
@@ -269,16 +276,20 @@ unfolding linksIn linksAt
 one-link m c g n = stop _ _ _ g ∙ ap (linksAt m (c .address)) n ∙ ap (λ (a : ℕ). linkAt m a ∷ []) (add-zero (c .address))
 
 -- the bytes of count, cylinder, head and sector are the same, so these are
-module _ (m m′ : List ℕ) (d : Drive) (a : ℕ) (h : SameButSgm m m′ d a) where
-  same-byte : (k : ℕ) → 7 ≤ k → k < 0x10 → byteOf m a k ≡ byteOf m′ a k
-  same-byte k l u = h .others k (omega arith) (λ z. omega arith) (λ z. omega arith) (λ w. omega (arith, w .0))
+module _ (m m′ : List ℕ) (d : Drives) (a : ℕ) (h : SameButSgm m m′ d a) where
+  same-byte : (k : ℕ) → 1 ≤ k → k < 0x10 → k ≢ 6 → byteOf m a k ≡ byteOf m′ a k
+  same-byte k l u n = h .others k (omega arith) (λ z. omega arith) n (λ w. omega (arith, w .0))
 
   same-two : (k : ℕ) → 7 ≤ k → k + 1 < 0x10 → twoBytes m a k ≡ twoBytes m′ a k
-  same-two k l u = ap₂ (λ (x y : ℕ). x * 256 + y) (same-byte k l (omega arith)) (same-byte (k + 1) (omega arith) u)
+  same-two k l u = ap₂ (λ (x y : ℕ). x * 256 + y) (same-byte k (omega arith) (omega arith) (λ z. omega arith)) (same-byte (k + 1) (omega arith) u (λ z. omega arith))
 
-  same-first : firstSector d (copiedAt m a) ≡ firstSector d (copiedAt m′ a)
+  same-unit : copiedAt m a .unit ≡ copiedAt m′ a .unit
   unfolding copiedAt
-  same-first = λ j. sectorNumber d (same-two 0xA (omega arith) (omega arith) j) (same-byte 0xC (omega arith) (omega arith) j) (same-byte 0xD (omega arith) (omega arith) j)
+  same-unit = ap (λ (b : ℕ). b % 8) (same-byte 5 (omega arith) (omega arith) (λ z. omega arith))
+
+  same-first : firstSector (d .on (copiedAt m a .unit)) (copiedAt m a) ≡ firstSector (d .on (copiedAt m′ a .unit)) (copiedAt m′ a)
+  unfolding copiedAt
+  same-first = λ j. sectorNumber (d .on (same-unit j)) (same-two 0xA (omega arith) (omega arith) j) (same-byte 0xC (omega arith) (omega arith) (λ z. omega arith) j) (same-byte 0xD (omega arith) (omega arith) (λ z. omega arith) j)
 
 -- with code 00 nothing is told of what would have fitted
 nothing-told : (m : List ℕ) (d : Drive) (c : Copied) → codeOf c d (length m) (linksIn m c) ≡ 0 → fittedOf c d (length m) (linksIn m c) ≡ 0
@@ -289,23 +300,25 @@ unfolding recordOf copiedAt
 walked-so m m′ d a h =
     let c = copiedAt m a in
     let e = copiedAt m′ a in
+    let on = d .on (c .unit) in
+    let on′ = d .on (e .unit) in
     let g : gathers c ≡ true = eq-eqb (sgm m a) 1 (h .set) in
     let none : gathers e ≡ false = ne-eqb (sgm m′ a) 1 (λ z. omega (arith, z, h .clear)) in
     let link = one-link m c g (h .one) in
-    let is-one = read-then c d m g (h .listed) ∙ link in
+    let is-one = read-then c on m g (h .listed) ∙ link in
     let same-count = same-two m m′ d a h 8 (omega arith) (omega arith) in
-    let sum = ap (λ (xs : List Link). bytesIn (map rangeOf xs)) (sym link) ∙ adds-up c d m g (h .listed) in
+    let sum = ap (λ (xs : List Link). bytesIn (map rangeOf xs)) (sym link) ∙ adds-up c on m g (h .listed) in
     record {
-      same = record { iopb = refl; sector = same-first m m′ d a h; taken = refl; count = same-count; byte0 = h .byte0; code = h .listed ∙ sym (h .plain); fitted = nothing-told m d c (h .listed) ∙ sym (nothing-told m′ d e (h .plain)) };
-      plain = ap length (none-read m′ d e none);
+      same = record { iopb = refl; sector = same-first m m′ d a h; taken = refl; count = same-count; unit = same-unit m m′ d a h; byte0 = h .byte0; code = h .listed ∙ sym (h .plain); fitted = nothing-told m on c (h .listed) ∙ sym (nothing-told m′ on′ e (h .plain)) };
+      plain = ap length (none-read m′ on′ e none);
       one = ap length is-one;
-      only = links-kept (linksRead m c d) ∙ is-one;
+      only = links-kept (linksRead m c on) ∙ is-one;
       address = h .address;
       length = sym (add-zero (linkAt m (data-address m a) .length)) ∙ sum ∙ ap (λ (n : ℕ). sectorBytes * n) same-count;
     }
 
 -- no step is taken yet, so all are left
-none-taken : (m : List ℕ) (d : Drive) (a : ℕ) → stepsOf (walkedAt d m a) ≤ remaining (walkedAt d m a)
+none-taken : (m : List ℕ) (d : Drives) (a : ℕ) → stepsOf (walkedAt d m a) ≤ remaining (walkedAt d m a)
 unfolding remaining recordOf
 none-taken m d a = omega arith
 

@@ -5,11 +5,11 @@ use native.Mathlib.Omega.{arith}
 use lib.ListN.{length, length-set}
 use lib.Seq.{getD-set-same, getD-set-other}
 use borrow.Author.Tests.{eq-eqb}
-use Rattle.meaning.specs.declared.Drive.{Drive}
+use Rattle.meaning.specs.Drives.{Drives}
 use Rattle.meaning.specs.declared.Record.{Record}
 use Rattle.meaning.specs.State.{State}
 use Rattle.meaning.specs.Command.{noRecord}
-use Rattle.meaning.specs.Step.{stepped}
+use Rattle.meaning.specs.Step.{withTaken, stepped}
 use Rattle.meaning.specs.Pick.{pickNumber, stepAt, picked, PickGives}
 use Rattle.meaning.proofs.Means.{when-false}
 use Rattle.meaning.proofs.Conditions.{means-store, means-finished, means-bad-record}
@@ -19,10 +19,10 @@ use Rattle.promises.specs.PickMoves.{commandAt, OneStepMore, PickMoves, 
 use Rattle.promises.proofs.StepMoves.{step-moves-one}
 
 one-step-more : (r : Record) → OneStepMore r (stepped r)
-unfolding stepped
-one-step-more r = record { taken = refl; iopb = refl; address = refl; sector = refl; ranges = refl; count = refl; byte0 = refl; code = refl; fitted = refl; unused = refl; list = refl }
+unfolding stepped withTaken
+one-step-more r = record { taken = refl; iopb = refl; address = refl; sector = refl; ranges = refl; count = refl; unit = refl; byte0 = refl; code = refl; fitted = refl; list = refl }
 
-module _ (d : Drive) (n p : ℕ) (s : State) (zero : pickNumber d n p s ≡ 0) where
+module _ (d : Drives) (n p : ℕ) (s : State) (zero : pickNumber d n p s ≡ 0) where
   passed : Passed d n s
   passed = pick-passed d n s p zero .0
 

@@ -1,22 +1,23 @@
 -- Steps at places one after another, and a run by picks as such steps: a pick of it is taken where its number is 0, and passed over
 -- otherwise.
-use mathlib.Core.Path.{_≡_, refl}
+use mathlib.Core.Path.{_≡_, refl, _∙_}
 use Prim.Native.Nat.{ℕ, _+_}
 use native.Mathlib.Omega.{arith}
 use mathlib.Core.Bool.{Bool, cond}
 use mathlib.Core.List.{List, [], _∷_, _++_}
 use lib.ListN.{length}
-use Rattle.meaning.specs.declared.Drive.{Drive}
+use Rattle.meaning.specs.Drives.{Drives}
+use Rattle.meaning.specs.Store.{disk}
 use Rattle.meaning.specs.State.{State}
 use Rattle.meaning.specs.Pick.{pickNumber, stepAt}
 use Rattle.meaning.specs.Run.{runNumber, Tally, atStart, onePick, picksFrom, byPicks, ranTo, runReply, RunGives}
 use Rattle.meaning.proofs.Means.{Means, holds, fails, means-eq}
-use Rattle.promises.specs.Taken.{stepsAt, Along, BySteps, Tried, no-more, accept, refuse, RunByPicksTakesSteps, StepsMoveOne}
+use Rattle.promises.specs.Taken.{stepsAt, Along, BySteps, Tried, no-more, accept, refuse, RunByPicksTakesSteps, StepsMoveOne, StepsLeaveAbsent}
 use Rattle.promises.proofs.PickMoves.{taken-moves-one}
 
 -- ---- along the way
 
-module _ (d : Drive) where
+module _ (d : Drives) where
   module _ (P : State → ℕ → Type 0) where
     pub along-after : (ps qs : List ℕ) (s : State) → Along d P (ps ++ qs) s → Along d P qs (stepsAt d ps s)
     along-after [] qs s h = h
@@ -27,23 +28,30 @@ module _ (d : Drive) where
     along-map Q f (p ∷ ps) s h = (f s p (h .0), along-map Q f ps (stepAt d p s) (h .1))
 
 -- the pick at p of state u is accepted
-abbrev pub Accepted : Drive → ℕ → State → ℕ → Type 0
+abbrev pub Accepted : Drives → ℕ → State → ℕ → Type 0
 Accepted d n u p = pickNumber d n p u ≡ 0
 
 pub steps-move-one : StepsMoveOne
 steps-move-one d n ps s s′ h = along-map d (Accepted d n) _ (λ u p. taken-moves-one d n p u) ps s (h .accepted)
 
+pub steps-leave-absent : StepsLeaveAbsent
+steps-leave-absent d n ps s s′ h u gone = rw (h .leave) (along ps s (h .accepted))
+  where
+    along : (qs : List ℕ) (s : State) → Along d (Accepted d n) qs s → stepsAt d qs s .store (disk u) ≡ s .store (disk u)
+    along [] s h = refl
+    along (p ∷ qs) s h = along qs (stepAt d p s) (h .1) ∙ taken-moves-one d n p s (h .0) .moved .absent-disks u gone
+
 -- ---- by picks
 
 -- the picks ps lead from the one tally to the other by those that are accepted, and these are counted
-record Counted (d : Drive) (n : ℕ) (ps : List ℕ) (y y′ : Tally) : Type 0 where
+record Counted (d : Drives) (n : ℕ) (ps : List ℕ) (y y′ : Tally) : Type 0 where
   places : List ℕ
   tried : Tried d n (y .state) ps places
   accepted : Along d (Accepted d n) places (y .state)
   left : y′ .state ≡ stepsAt d places (y .state)
   many : y′ .steps ≡ y .steps + length places
 
-module _ (d : Drive) (n : ℕ) where
+module _ (d : Drives) (n : ℕ) where
   abbrev took : ℕ → Tally → Tally
   took p y = record { steps = y .steps + 1; refused = y .refused; state = stepAt d p (y .state) }
 
@@ -74,7 +82,7 @@ module _ (d : Drive) (n : ℕ) where
   picks-counted (p ∷ ps) y = one-counted p ps y (means-eq (pickNumber d n p (y .state)) 0) (picks-counted ps)
 
 -- what picks come to, tried in turn
-pub picks-taken : (d : Drive) (n : ℕ) (ps : List ℕ) (s : State)
+pub picks-taken : (d : Drives) (n : ℕ) (ps : List ℕ) (s : State)
     → (b : BySteps d n s (byPicks d n ps s .state) (byPicks d n ps s .steps)) × Tried d n s ps (b .places)
 unfolding byPicks
 picks-taken d n ps s =
@@ -82,7 +90,7 @@ picks-taken d n ps s =
     (record { places = c .places; taken = record { accepted = c .accepted; leave = c .left }; many = let e = c .many in omega arith }, c .tried)
 
 -- a run that is refused takes no step
-abbrev pub no-steps : (d : Drive) (n : ℕ) (s : State) → BySteps d n s s 0
+abbrev pub no-steps : (d : Drives) (n : ℕ) (s : State) → BySteps d n s s 0
 no-steps d n s = record { places = []; taken = record { accepted = tt; leave = refl }; many = refl }
 
 pub run-by-picks-takes-steps : RunByPicksTakesSteps

@@ -5,7 +5,7 @@ use Prim.Native.Nat.{ℕ, _%_, _<_}
 use native.Mathlib.Omega.{arith}
 use mathlib.Core.Bool.{Bool, true, false, cond}
 use mathlib.Core.List.{List, [], _∷_}
-use Rattle.meaning.specs.declared.Drive.{Drive}
+use Rattle.meaning.specs.Drives.{Drives}
 use Rattle.meaning.specs.Store.{memory}
 use Rattle.meaning.specs.State.{State}
 use Rattle.meaning.specs.Code.{odd}
@@ -30,7 +30,7 @@ in-turn-once m start {N} {M} (k, c, g) (l, d, h) = go (means-lt k l) (means-lt l
         one-given (atIopb m start k) g (subst (λ j. Given (atIopb m start j) M) same h)
 
 -- the number of a chain, and its end
-verdict-in-turn : (m : List ℕ) (d : Drive) (start : ℕ) (c : Chain) → Verdict m d start c → InTurn m start (answered c .number)
+verdict-in-turn : (m : List ℕ) (d : Drives) (start : ℕ) (c : Chain) → Verdict m d start c → InTurn m start (answered c .number)
 verdict-in-turn m d start (refused N) v = v .1
 verdict-in-turn m d start (accepted rs) v = (v .0, v .1 .0, v .1 .1)
 
@@ -41,7 +41,7 @@ first-two true b c = refl
 first-two false true c = refl
 first-two false false c = refl
 
-module _ (d : Drive) (start : ℕ) (s : State) where
+module _ (d : Drives) (start : ℕ) (s : State) where
   number-exactly-when : (N : ℕ) → (walkReply d start s .number ≡ N) ↔ Given (walkTable d start s N) N
   unfolding walkReply chainAt
   number-exactly-when N =

@@ -8,7 +8,7 @@ use mathlib.Core.Bool.{Bool, true, false, cond}
 use mathlib.Core.List.{List, [], _∷_, _++_}
 use lib.ListN.{length, getD, drop, length-append, List·getD-append}
 use lib.Seq.{getD-at, getD-append-add, getD-drop}
-use Rattle.meaning.specs.declared.Drive.{Drive}
+use Rattle.meaning.specs.Drives.{Drives}
 use Rattle.meaning.specs.declared.Record.{Record}
 use Rattle.meaning.specs.Store.{memory}
 use Rattle.meaning.specs.State.{mostCommands}
@@ -27,7 +27,7 @@ getD-behind rs t z j h =
     let e : length rs + (j - length rs) ≡ j = omega arith in
     rw (← e) (getD-append-add rs (drop (length rs) t) (j - length rs) z ∙ getD-drop (length rs) t (j - length rs) z)
 
-module _ (m : List ℕ) (d : Drive) (start : ℕ) where
+module _ (m : List ℕ) (d : Drives) (start : ℕ) where
   length-commands : (k : ℕ) → length (commandsTo m d start k) ≡ k
   length-commands zero = refl
   length-commands (suc k) =

@@ -1,7 +1,7 @@
 -- A sector written and read back is equal: the steps between leave each byte of it, since whole sectors are written and theirs is another.
 -- And ranges that are disjoint lay each byte of the data in a place of its own, as far as they reach: past the whole sector, since number 9
 -- was not given.
-use mathlib.Core.Path.{_≡_, refl, _∙_}
+use mathlib.Core.Path.{_≡_, refl, sym, _∙_}
 use mathlib.Core.Logic.{_≢_, inl, inr}
 use Prim.Native.Nat.{ℕ, _+_, _-_, _*_, _<_}
 use native.Mathlib.Nat.{not-suc-le-zero}
@@ -9,8 +9,8 @@ use native.Mathlib.Omega.{arith}
 use mathlib.Core.Bool.{Bool, cond}
 use mathlib.Core.List.{List, [], _∷_, _++_}
 use lib.ListN.{getD}
-use Rattle.meaning.specs.declared.Drive.{Drive}
-use Rattle.meaning.specs.Store.{theDisk}
+use Rattle.meaning.specs.Drives.{Drives}
+use Rattle.meaning.specs.Store.{disk}
 use Rattle.meaning.specs.State.{State}
 use Rattle.meaning.specs.Sectors.{sectorBytes}
 use Rattle.meaning.specs.Ranges.{Range}
@@ -25,23 +25,23 @@ use Rattle.promises.specs.StepMoves.{sectorOf}
 use Rattle.promises.specs.PickMoves.{commandAt}
 use Rattle.promises.specs.Taken.{stepsAt, Along, Taken}
 use Rattle.promises.specs.WrittenThenRead.{Spares, Disjoint, DisjointSuffices, PlainIsDisjoint, WrittenThenRead, ReadBackIfDisjoint}
-use Rattle.promises.proofs.StepMoves.{data-in, no-memory, step-stays}
+use Rattle.promises.proofs.StepMoves.{data-in, no-memory, same-unit, step-stays}
 use Rattle.promises.proofs.PickMoves.{may-step, taken-moves-one}
 use Rattle.promises.proofs.Taken.{Accepted, along-after}
 
--- a byte of sector k stays
-sector-stays : (d : Drive) (k : ℕ) (ps : List ℕ) (s : State)
-    → Along d (Spares k) ps s
+-- a byte of sector k of unit u stays
+sector-stays : (d : Drives) (u k : ℕ) (ps : List ℕ) (s : State)
+    → Along d (Spares u k) ps s
     → (j : ℕ)
     → j < sectorBytes
-    → getD (stepsAt d ps s .store theDisk) (sectorBytes * k + j) 0 ≡ getD (s .store theDisk) (sectorBytes * k + j) 0
+    → getD (stepsAt d ps s .store (disk u)) (sectorBytes * k + j) 0 ≡ getD (s .store (disk u)) (sectorBytes * k + j) 0
 unfolding stepAt
-sector-stays d k [] s none j h = refl
-sector-stays d k (p ∷ ps) s none j h =
-    sector-stays d k ps (stepAt d p s) (none .1) j h
-    ∙ step-stays d (commandAt s p) (s .store) theDisk (sectorBytes * k + j) (λ f. no-memory (f .1 .0))
-    (λ w. none .0 (w .0) (omega (arith, w .1 .1)))
-    (λ o. no-memory (o .1 .0))
+sector-stays d u k [] s none j h = refl
+sector-stays d u k (p ∷ ps) s none j h =
+    sector-stays d u k ps (stepAt d p s) (none .1) j h
+    ∙ step-stays d (commandAt s p) (s .store) (disk u) (sectorBytes * k + j) (λ f. no-memory u (f .1 .0))
+    (λ w. none .0 (w .0) (sym (same-unit (w .1 .0)), omega (arith, w .1 .1)))
+    (λ o. no-memory u (o .1 .0))
 
 -- ---- ranges that are disjoint
 
@@ -78,7 +78,7 @@ plain-is-disjoint r e = rw (data-plain r e) ((λ a w none. none), tt)
 
 -- ---- written and read back
 
-module _ (d : Drive) (n : ℕ) (before : List ℕ) (w : ℕ) (between : List ℕ) (r : ℕ) (after : List ℕ) (s s′ : State) (h : Taken d n (before ++ (w ∷ (between ++ (r ∷ after)))) s s′) where
+module _ (d : Drives) (n : ℕ) (before : List ℕ) (w : ℕ) (between : List ℕ) (r : ℕ) (after : List ℕ) (s s′ : State) (h : Taken d n (before ++ (w ∷ (between ++ (r ∷ after)))) s s′) where
   abbrev s₁ : State
   s₁ = stepsAt d before s
 
@@ -93,19 +93,19 @@ module _ (d : Drive) (n : ℕ) (before : List ℕ) (w : ℕ) (between : List ℕ
   from-r = along-after d (Accepted d n) between (r ∷ after) (stepAt d w s₁) (from-w .1)
 
 pub written-then-read : WrittenThenRead
-written-then-read d n before w between r after s s′ h writes reads same spares apart once j k =
+written-then-read d n before w between r after s s′ h writes reads unit same spares apart once j k =
     let s₁ = stepsAt d before s in
     let s₂ = stepsAt d between (stepAt d w s₁) in
     let written = taken-moves-one d n w s₁ (from-w d n before w between r after s s′ h .0) .moved in
     let back = taken-moves-one d n r s₂ (from-r d n before w between r after s s′ h .0) .moved in
     back .fetched reads j k (λ i l m. once j i l m) (apart j k)
-    ∙ rw same (sector-stays d (sectorOf (commandAt s₁ w)) between (stepAt d w s₁) spares j k)
+    ∙ rw (unit, same) (sector-stays d (commandAt s₁ w .unit) (sectorOf (commandAt s₁ w)) between (stepAt d w s₁) spares j k)
     ∙ written .kept writes j k
 
 -- number 9 was not given for the read, or its pick would not have been accepted
 pub read-back-if-disjoint : ReadBackIfDisjoint
-read-back-if-disjoint d n before w between r after s s′ h writes reads same spares apart disjoint =
+read-back-if-disjoint d n before w between r after s s′ h writes reads unit same spares apart disjoint =
     let s₂ = stepsAt d between (stepAt d w (stepsAt d before s)) in
     let may = may-step d n r s₂ (from-r d n before w between r after s s′ h .0) in
-    written-then-read d n before w between r after s s′ h writes reads same spares apart
+    written-then-read d n before w between r after s s′ h writes reads unit same spares apart
     (disjoint-suffices d (commandAt s₂ r) (s₂ .store) may (inl reads) disjoint)

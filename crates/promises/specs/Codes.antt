@@ -1,23 +1,23 @@
 -- The code each command will get: its three tables in words, and when each code is given. Several rows give 00, 10H and 4BH, so it is said
 -- by rows: a code is given exactly when some row that gives it is the first that applies (Code 1 to 12 and 14 to 16).
--- c is what the walk copied, d the drive, m memory.
+-- c is what the walk copied, d the drive of the command's own unit, m memory.
 use mathlib.Core.Path.{_≡_}
 use mathlib.Core.Logic.{_↔_, _≢_, _⊎_}
 use Prim.Native.Nat.{ℕ, _+_, _*_, _<_}
-use mathlib.Core.Bool.{true}
+use mathlib.Core.Bool.{true, false}
 use mathlib.Core.List.{List, [], _∷_, _++_}
 use lib.ListN.{length}
 use Rattle.meaning.specs.declared.Drive.{Drive}
+use Rattle.meaning.specs.Drives.{Drives}
 use Rattle.meaning.specs.declared.Copied.{Copied}
 use Rattle.meaning.specs.declared.Link.{Link}
-use Rattle.meaning.specs.Store.{theUnit}
 use Rattle.meaning.specs.Sectors.{sectorBytes, sectorCount}
 use Rattle.meaning.specs.Fields.{bit}
 use Rattle.meaning.specs.Ranges.{Range}
 use Rattle.meaning.specs.Links.{linkBytes, rangesOf, bytesIn}
 use Rattle.meaning.specs.Code.{nop, write, read, commandIn, gathers, firstSector, linkCount, linksIn, codeOf}
-use Rattle.meaning.specs.Table.{Case, _⇒_, Otherwise, FirstAt, GivesAt}
-use Rattle.meaning.specs.Conditions.{Odd, SomeOf, Outside}
+use Rattle.meaning.specs.Table.{Case, _⇒_, Otherwise, NoneOf, FirstAt, GivesAt}
+use Rattle.meaning.specs.Conditions.{Odd, Absent, SomeOf, Outside}
 
 -- CHEN is bit 5 of byte 0, SGM bit 4
 abbrev pub Chen : Copied → Type 0
@@ -38,10 +38,11 @@ commandTable c =
 abbrev pub SectorAbove : Drive → Copied → Type 0
 SectorAbove d c = ((c .head ≡ d .head) × (d .«last_sector» < c .sector)) ⊎ ((c .head ≢ d .head) × (d .sector < c .sector))
 
--- what only a transfer is asked before its data is looked at: first whether it is a place of the drive that is named, and any sectors
+-- what only a transfer is asked before its data is looked at: first whether its drive is there at all, whether any sectors are asked for, and
+-- whether it is a place of the drive that is named
 abbrev pub placeTable : Copied → Drive → List Case
 placeTable c d =
-    (c .unit ≢ theUnit) ⇒ 0x42
+    (d .present ≡ false) ⇒ 0x42
     ∷ (c .count ≡ 0) ⇒ 0x13
     ∷ (d .cylinder < c .cylinder) ⇒ 0x10
     ∷ (d .head < c .head) ⇒ 0x11
@@ -88,3 +89,9 @@ module _ (c : Copied) (d : Drive) (m : List ℕ) where
 
   abbrev pub CodeExactlyWhen : ℕ → Type 0
   CodeExactlyWhen code = (codeOf c d (length m) (linksIn m c) ≡ code) ↔ ((k : ℕ) × (FirstAt codeTable k × GivesAt codeTable k code))
+
+-- So 42H, a drive that is not ready, is given exactly where none of what every command is asked gives a code and its own unit is absent.
+abbrev pub NotReadyExactlyWhen : Type 0
+NotReadyExactlyWhen =
+    (d : Drives) (c : Copied) (m : List ℕ)
+    → (codeOf c (d .on (c .unit)) (length m) (linksIn m c) ≡ 0x42) ↔ (NoneOf (commandTable c) × Absent d (c .unit))

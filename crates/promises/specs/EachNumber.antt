@@ -5,7 +5,7 @@ use mathlib.Core.Logic.{_↔_}
 use Prim.Native.Nat.{ℕ, _≤_}
 use mathlib.Core.List.{List}
 use lib.ListN.{getD}
-use Rattle.meaning.specs.declared.Drive.{Drive}
+use Rattle.meaning.specs.Drives.{Drives}
 use Rattle.meaning.specs.declared.Record.{Record}
 use Rattle.meaning.specs.declared.Walked.{Walked}
 use Rattle.meaning.specs.declared.Ran.{Ran}
@@ -20,11 +20,11 @@ use Rattle.meaning.specs.Conditions.{Odd, SizesWrong, Finished, Spoiled, Waits}
 use Rattle.promises.specs.WalkNumbers.{OutOfMemory, SharesEarlier, Ends, Comes}
 
 -- neither 1 nor 2 is given, and X
-abbrev pub Past2 : Drive → ℕ → State → Type 0 → Type 0
+abbrev pub Past2 : Drives → ℕ → State → Type 0 → Type 0
 Past2 d start s X = (¬ SizesWrong d s) × ((¬ Odd start) × X)
 
 -- m is memory; k is the place of the IOPB at which the number is given, the first place being 0
-pub record WalkByNumber (m : List ℕ) (d : Drive) (start : ℕ) (s : State) (w : Walked) : Type 0 where
+pub record WalkByNumber (m : List ℕ) (d : Drives) (start : ℕ) (s : State) (w : Walked) : Type 0 where
   -- sizes are wrong
   pub walk-1-exactly-when : (w .number ≡ 1) ↔ SizesWrong d s
   -- the first address is odd
@@ -47,12 +47,12 @@ pub record WalkByNumber (m : List ℕ) (d : Drive) (start : ℕ) (s : State) (w 
 
 abbrev pub EachWalkNumber : Type 0
 EachWalkNumber =
-    (d : Drive) (start : ℕ) (s : State) (w : Walked) (t′ : List Record)
+    (d : Drives) (start : ℕ) (s : State) (w : Walked) (t′ : List Record)
     → WalkGives d start s w t′
     → WalkByNumber (s .store memory) d start s w
 
 -- r is the record at the place picked
-pub record PickByNumber (d : Drive) (n p : ℕ) (s : State) (r : Record) (k : ℕ) : Type 0 where
+pub record PickByNumber (d : Drives) (n p : ℕ) (s : State) (r : Record) (k : ℕ) : Type 0 where
   -- sizes are wrong
   pub pick-1-exactly-when : (k ≡ 1) ↔ SizesWrong d s
   -- the table is spoiled
@@ -71,17 +71,17 @@ pub record PickByNumber (d : Drive) (n p : ℕ) (s : State) (r : Record) (k : �
 
 abbrev pub EachPickNumber : Type 0
 EachPickNumber =
-    (d : Drive) (n p : ℕ) (s : State) (k : ℕ) (s′ : State)
+    (d : Drives) (n p : ℕ) (s : State) (k : ℕ) (s′ : State)
     → PickGives d n p s k s′
     → PickByNumber d n p s (getD (s .table) p noRecord) k
 
-pub record RunByNumber (d : Drive) (n : ℕ) (s : State) (r : Ran) : Type 0 where
+pub record RunByNumber (d : Drives) (n : ℕ) (s : State) (r : Ran) : Type 0 where
   pub run-1-exactly-when : (r .number ≡ 1) ↔ SizesWrong d s
   pub run-9-exactly-when : (r .number ≡ 9) ↔ ((¬ SizesWrong d s) × Spoiled d n s)
   pub run-0-exactly-when : (r .number ≡ 0) ↔ ((¬ SizesWrong d s) × ((¬ Spoiled d n s) × Otherwise))
 
 abbrev pub EachRunNumber : Type 0
 EachRunNumber =
-    (d : Drive) (n : ℕ) (go : State → Tally) (s : State) (r : Ran) (s′ : State)
+    (d : Drives) (n : ℕ) (go : State → Tally) (s : State) (r : Ran) (s′ : State)
     → RunGives d n go s r s′
     → RunByNumber d n s r

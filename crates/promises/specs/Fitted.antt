@@ -1,5 +1,5 @@
 -- How much would have fitted: when the byte is told that a close posts as byte 3 (Code 18), and what the number means (Code 17).
--- c is what the walk copied, d the drive, m memory.
+-- c is what the walk copied, d the drive of the command's own unit, m memory.
 use mathlib.Core.Path.{_≡_}
 use mathlib.Core.Logic.{_↔_, _≢_}
 use Prim.Native.Nat.{ℕ, _+_, _-_, _*_, _/_, _≤_, _<_, min}

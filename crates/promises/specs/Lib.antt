@@ -11,6 +11,7 @@ pub mod Views
 pub mod Codes
 pub mod Fitted
 pub mod RangesKept
+pub mod AbsentUnits
 pub mod Refused
 pub mod OneReply
 -- demand 2: what one step moves, and what many do
@@ -19,4 +20,5 @@ pub mod Closing
 pub mod PickMoves
 pub mod Taken
 pub mod WrittenThenRead
+pub mod AsBefore
 pub mod OneRange

@@ -1,9 +1,9 @@
--- What an accepted pick does: one step, to memory and image and to the table (Pick 7, Demand 2). s is the state before the pick, s′ after.
+-- What an accepted pick does: one step, to memory and the disks and to the table (Pick 7, Demand 2). s is the state before the pick, s′ after.
 use mathlib.Core.Path.{_≡_}
 use mathlib.Core.Logic.{_≢_}
 use Prim.Native.Nat.{ℕ, _+_}
 use lib.ListN.{length, getD}
-use Rattle.meaning.specs.declared.Drive.{Drive}
+use Rattle.meaning.specs.Drives.{Drives}
 use Rattle.meaning.specs.declared.Record.{Record}
 use Rattle.meaning.specs.State.{State}
 use Rattle.meaning.specs.Command.{noRecord}
@@ -22,14 +22,14 @@ pub record OneStepMore (r r′ : Record) : Type 0 where
   pub sector : r′ .sector ≡ r .sector
   pub ranges : r′ .ranges ≡ r .ranges
   pub count : r′ .count ≡ r .count
+  pub unit : r′ .unit ≡ r .unit
   pub byte0 : r′ .byte0 ≡ r .byte0
   pub code : r′ .code ≡ r .code
   pub fitted : r′ .fitted ≡ r .fitted
-  pub unused : r′ .unused ≡ r .unused
   pub list : r′ .list ≡ r .list
 
 -- such a step at place p, and the table stays but for the steps taken of that record
-pub record PickMoves (d : Drive) (p : ℕ) (s s′ : State) : Type 0 where
+pub record PickMoves (d : Drives) (p : ℕ) (s s′ : State) : Type 0 where
   pub moved : Moved d (commandAt s p) (s .store) (s′ .store)
   pub here : OneStepMore (commandAt s p) (commandAt s′ p)
   pub others : (q : ℕ) → q ≢ p → commandAt s′ q ≡ commandAt s q
@@ -37,7 +37,7 @@ pub record PickMoves (d : Drive) (p : ℕ) (s s′ : State) : Type 0 where
 
 abbrev pub AcceptedPickMovesOne : Type 0
 AcceptedPickMovesOne =
-    (d : Drive) (n p : ℕ) (s : State) (k : ℕ) (s′ : State)
+    (d : Drives) (n p : ℕ) (s : State) (k : ℕ) (s′ : State)
     → PickGives d n p s k s′
     → k ≡ 0
     → PickMoves d p s s′

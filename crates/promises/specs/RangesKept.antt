@@ -1,6 +1,6 @@
 -- The ranges of a link list are kept wherever the walk read the list, and there are none otherwise (Link 6 and 7): with the codes 00, 1CH and
 -- 1FH, and with the last 4BH, that of a range outside memory. The first 4BH is for a list that is not all in memory, and is not read.
--- c is what the walk copied from the IOPB at a, d the drive, m memory.
+-- c is what the walk copied from the IOPB at a, d the drive of its own unit, m memory.
 use mathlib.Core.Path.{_≡_}
 use mathlib.Core.Logic.{_↔_, _≢_, _⊎_}
 use Prim.Native.Nat.{ℕ, _+_, _*_, _≤_}

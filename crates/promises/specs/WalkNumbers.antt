@@ -1,11 +1,11 @@
 -- The walk: for each of its numbers exactly when it is given (Walk 4 to 10), and what an accepted chain leaves in the table (Record 4, 7).
--- d is the drive, s the state before the walk, w what it answers and t′ the table after it.
+-- d are the drives, s the state before the walk, w what it answers and t′ the table after it.
 use mathlib.Core.Path.{_≡_}
 use mathlib.Core.Logic.{_↔_, _≢_, _⊎_}
 use Prim.Native.Nat.{ℕ, zero, suc, _+_, _≤_, _<_}
 use mathlib.Core.List.{List, [], _∷_}
 use lib.ListN.{length, getD}
-use Rattle.meaning.specs.declared.Drive.{Drive}
+use Rattle.meaning.specs.Drives.{Drives}
 use Rattle.meaning.specs.declared.Record.{Record}
 use Rattle.meaning.specs.declared.Walked.{Walked}
 use Rattle.meaning.specs.Store.{memory}
@@ -54,7 +54,7 @@ module _ (m : List ℕ) (start : ℕ) where
   InTurn N = (k : ℕ) × Comes k × Given (atIopb k) N
 
 -- 1, then 2, then from IOPB to IOPB
-abbrev pub walkTable : Drive → ℕ → State → ℕ → List Case
+abbrev pub walkTable : Drives → ℕ → State → ℕ → List Case
 walkTable d start s N =
     SizesWrong d s ⇒ 1
     ∷ Odd start ⇒ 2
@@ -63,24 +63,26 @@ walkTable d start s N =
 
 abbrev pub WalkExactlyWhen : ℕ → Type 0
 WalkExactlyWhen N =
-    (d : Drive) (start : ℕ) (s : State) (w : Walked) (t′ : List Record)
+    (d : Drives) (start : ℕ) (s : State) (w : Walked) (t′ : List Record)
     → WalkGives d start s w t′
     → (w .number ≡ N) ↔ Given (walkTable d start s N) N
 
--- t′ holds a record for each IOPB up to the k-th, where the chain ends, from its copied bytes; records past them are left alone
-pub record Filled (m : List ℕ) (d : Drive) (start : ℕ) (t : List Record) (w : Walked) (t′ : List Record) (k : ℕ) : Type 0 where
+-- the record of the IOPB at a, by its copied bytes and the drive of its own unit
+abbrev pub walkedAt : Drives → List ℕ → ℕ → Record
+walkedAt d m a = let c = copiedAt m a in recordOf c a (d .on (c .unit)) m
+
+-- t′ holds a record for each IOPB up to the k-th, where the chain ends; records past them are left alone
+pub record Filled (m : List ℕ) (d : Drives) (start : ℕ) (t : List Record) (w : Walked) (t′ : List Record) (k : ℕ) : Type 0 where
   pub comes : Comes m start k
   pub ends : Given (atIopb m start k) 0
   pub commands : w .commands ≡ suc k
-  pub records : (j : ℕ)
-      → j ≤ k
-      → getD t′ j noRecord ≡ recordOf (copiedAt m (reached m start j)) (reached m start j) d m
+  pub records : (j : ℕ) → j ≤ k → getD t′ j noRecord ≡ walkedAt d m (reached m start j)
   pub others : (j : ℕ) → k < j → getD t′ j noRecord ≡ getD t j noRecord
   pub size : length t′ ≡ length t
 
 abbrev pub WalkFills : Type 0
 WalkFills =
-    (d : Drive) (start : ℕ) (s : State) (w : Walked) (t′ : List Record)
+    (d : Drives) (start : ℕ) (s : State) (w : Walked) (t′ : List Record)
     → WalkGives d start s w t′
     → w .number ≡ 0
     → (k : ℕ) × Filled (s .store memory) d start (s .table) w t′ k

@@ -1,13 +1,13 @@
 -- A sector that is written and then read back is equal (Demand 2). Along steps taken one after another, as those of any run, one at place w
--- writes a sector, steps follow of which none writes that sector, and then one at place r reads it: each of the 512 bytes that come into
--- memory is the one that the write took. Either may have a link list; the read must not lay two bytes of the sector in one place, and does
+-- writes a sector, steps follow of which none writes that sector of that unit, whatever they write on the others, and then one at place r
+-- reads it: each of the 512 bytes that come into memory is the one that the write took. Either may have a link list; the read must not lay two bytes of the sector in one place, and does
 -- not where its ranges are disjoint.
 use mathlib.Core.Path.{_≡_}
 use mathlib.Core.Logic.{_≢_, _⊎_}
 use Prim.Native.Nat.{ℕ, _<_}
 use mathlib.Core.List.{List, [], _∷_, _++_}
 use lib.ListN.{getD}
-use Rattle.meaning.specs.declared.Drive.{Drive}
+use Rattle.meaning.specs.Drives.{Drives}
 use Rattle.meaning.specs.declared.Record.{Record}
 use Rattle.meaning.specs.Store.{memory, Store}
 use Rattle.meaning.specs.State.{State}
@@ -20,9 +20,9 @@ use Rattle.promises.specs.StepMoves.{MayStep, sectorOf, inMemory, Posted
 use Rattle.promises.specs.PickMoves.{commandAt}
 use Rattle.promises.specs.Taken.{stepsAt, Along, Taken}
 
--- the step at place p does not write sector k
-abbrev pub Spares : ℕ → State → ℕ → Type 0
-Spares k s p = Writes (commandAt s p) → sectorOf (commandAt s p) ≢ k
+-- the step at place p does not write sector k of unit u
+abbrev pub Spares : ℕ → ℕ → State → ℕ → Type 0
+Spares u k s p = Writes (commandAt s p) → ¬ ((commandAt s p .unit ≡ u) × (sectorOf (commandAt s p) ≡ k))
 
 -- no two bytes of the sector that a step of r moves have one place in memory
 abbrev pub OnePlace : Record → Type 0
@@ -38,19 +38,20 @@ DisjointRanges r = Disjoint (dataBytes r)
 
 -- a transfer whose ranges are disjoint lays none so, if number 9 is not given: then its ranges hold the whole sector
 abbrev pub DisjointSuffices : Type 0
-DisjointSuffices = (d : Drive) (r : Record) (s : Store) → MayStep d r s → Reads r ⊎ Writes r → DisjointRanges r → OnePlace r
+DisjointSuffices = (d : Drives) (r : Record) (s : Store) → MayStep d r s → Reads r ⊎ Writes r → DisjointRanges r → OnePlace r
 
 -- one without a list has one range, so it is such a transfer
 abbrev pub PlainIsDisjoint : Type 0
 PlainIsDisjoint = (r : Record) → r .ranges ≡ 0 → DisjointRanges r
 
 -- s₁ is the state in which w writes, s₂ that in which r reads; P is what is asked of the read
-abbrev pub Again : (Record → Type 0) → Drive → State → ℕ → List ℕ → State → ℕ → Type 0
+abbrev pub Again : (Record → Type 0) → Drives → State → ℕ → List ℕ → State → ℕ → Type 0
 Again P d s₁ w between s₂ r =
     Writes (commandAt s₁ w)
     → Reads (commandAt s₂ r)
+    → commandAt s₂ r .unit ≡ commandAt s₁ w .unit
     → sectorOf (commandAt s₂ r) ≡ sectorOf (commandAt s₁ w)
-    → Along d (Spares (sectorOf (commandAt s₁ w))) between (stepAt d w s₁)
+    → Along d (Spares (commandAt s₁ w .unit) (sectorOf (commandAt s₁ w))) between (stepAt d w s₁)
     -- no status byte lies in the data of the read
     → ((j : ℕ) → j < sectorBytes → ¬ Posted (commandAt s₂ r) memory (inMemory (commandAt s₂ r) j))
     → P (commandAt s₂ r)
@@ -60,7 +61,7 @@ Again P d s₁ w between s₂ r =
 
 abbrev pub ReadBackIf : (Record → Type 0) → Type 0
 ReadBackIf P =
-    (d : Drive) (n : ℕ) (before : List ℕ) (w : ℕ) (between : List ℕ) (r : ℕ) (after : List ℕ) (s s′ : State)
+    (d : Drives) (n : ℕ) (before : List ℕ) (w : ℕ) (between : List ℕ) (r : ℕ) (after : List ℕ) (s s′ : State)
     → Taken d n (before ++ (w ∷ (between ++ (r ∷ after)))) s s′
     → Again P d (stepsAt d before s) w between (stepsAt d between (stepAt d w (stepsAt d before s))) r
 

@@ -9,6 +9,7 @@ use lib.ListN.{getD, set}
 use lib.Seq.{getD-set-other}
 use Rattle.meaning.specs.Fields.{byteOf}
 use Rattle.meaning.specs.Sectors.{maximumOn, perCylinder, sectorCount, sectorNumber, maximaRight, imageRight}
+use Rattle.meaning.specs.Drives.{driveOf}
 use Rattle.meaning.specs.Sizes.{sizesWrong}
 use Rattle.meaning.specs.Links.{linkAt, linksAt}
 use Rattle.meaning.specs.Code.{copiedAt, linkCount, linksIn, codeOf, fittedOf, earlyCode, linksRead}
@@ -20,10 +21,10 @@ use Rattle.meaning.specs.Run.{byPicks, ranTo, runReply}
 use Rattle.meaning.specs.Deck.{benchDrive, benchMemory, benchImage}
 use Rattle.meaning.specs.Conditions.{Within}
 use Rattle.promises.specs.OneRange.{ButSgm}
-use Rattle.speaks.specs.Example.{Speaks, SpeaksOfLists, withList, withoutList, SpeaksOfOneRange, SpeaksOfEnds}
+use Rattle.speaks.specs.Example.{Speaks, SpeaksOfLists, withList, withoutList, SpeaksOfOneRange, SpeaksOfEnds, SpeaksOfUnits}
 
 pub speaks : Speaks
-unfolding byteOf copiedAt linkCount linksIn codeOf earlyCode linksRead recordOf walkReply walkLeaves sizesWrong maximaRight imageRight maximumOn perCylinder sectorCount sectorNumber benchMemory benchImage benchDrive stepsOf finished conflict runReply ranTo byPicks crosses
+unfolding byteOf copiedAt linkCount linksIn codeOf earlyCode linksRead recordOf walkReply walkLeaves sizesWrong driveOf maximaRight imageRight maximumOn perCylinder sectorCount sectorNumber benchMemory benchImage benchDrive stepsOf finished conflict runReply ranTo byPicks crosses
 speaks =
     record {
       accepted = refl;
@@ -35,7 +36,7 @@ speaks =
     }
 
 pub speaks-of-lists : SpeaksOfLists
-unfolding byteOf copiedAt linkAt linksAt linkCount linksIn codeOf earlyCode linksRead recordOf walkReply walkLeaves sizesWrong maximaRight imageRight maximumOn perCylinder sectorCount sectorNumber stepsOf finished conflict runReply ranTo byPicks crosses
+unfolding byteOf copiedAt linkAt linksAt linkCount linksIn codeOf earlyCode linksRead recordOf walkReply walkLeaves sizesWrong driveOf maximaRight imageRight maximumOn perCylinder sectorCount sectorNumber stepsOf finished conflict runReply ranTo byPicks crosses
 speaks-of-lists =
     record {
       accepted = refl;
@@ -64,7 +65,7 @@ same-elsewhere m k a b c =
     ∙ getD-set-other m 0 k 0x02 0 a)
 
 pub speaks-of-one-range : SpeaksOfOneRange
-unfolding byteOf copiedAt linkAt linksAt linkCount linksIn codeOf earlyCode linksRead recordOf maximumOn perCylinder sectorCount sectorNumber
+unfolding byteOf copiedAt linkAt linksAt linkCount linksIn codeOf earlyCode linksRead recordOf driveOf maximumOn perCylinder sectorCount sectorNumber
 speaks-of-one-range =
     record {
       byte0 = but-sgm;
@@ -78,11 +79,22 @@ speaks-of-one-range =
     }
 
 pub speaks-of-ends : SpeaksOfEnds
-unfolding byteOf copiedAt linkCount linksIn codeOf fittedOf earlyCode linksRead recordOf walkReply walkLeaves sizesWrong maximaRight imageRight maximumOn perCylinder sectorCount sectorNumber stepsOf finished conflict runReply ranTo byPicks crosses
+unfolding byteOf copiedAt linkCount linksIn codeOf fittedOf earlyCode linksRead recordOf walkReply walkLeaves sizesWrong driveOf maximaRight imageRight maximumOn perCylinder sectorCount sectorNumber stepsOf finished conflict runReply ranTo byPicks crosses
 speaks-of-ends =
     record {
       accepted = refl;
       kept = refl;
       posted = refl;
       laid = refl;
+    }
+
+pub speaks-of-units : SpeaksOfUnits
+unfolding byteOf copiedAt linkCount linksIn codeOf earlyCode linksRead recordOf walkReply walkLeaves sizesWrong driveOf maximaRight imageRight maximumOn perCylinder sectorCount sectorNumber stepsOf finished conflict runReply ranTo byPicks crosses
+speaks-of-units =
+    record {
+      accepted = refl;
+      units = refl;
+      moved = refl;
+      kept = refl;
+      stays = refl;
     }

@@ -8,7 +8,7 @@ use lib.ListN.{length, take, drop, take-append-drop}
 use lib.Seq.{take-all}
 use lib.Dec.{eqb}
 use borrow.Author.Tests.{lt-ltb, eq-eqb, eqb-true}
-use Rattle.meaning.specs.declared.Drive.{Drive}
+use Rattle.meaning.specs.Drives.{Drives}
 use Rattle.meaning.specs.declared.Record.{Record}
 use Rattle.meaning.specs.Store.{Store}
 use Rattle.meaning.specs.State.{State, mostCommands}
@@ -34,7 +34,7 @@ pub record Begins (many : ℕ) (t all : List Record) : Type 0 where
 pub begins-itself : (t : List Record) → length t ≡ mostCommands → Begins mostCommands t t
 begins-itself t h = record { as-long = h; front = λ _. take-all mostCommands t (omega arith) }
 
-module _ (d : Drive) (n many : ℕ) (s : State) (all : List Record) (full : length (s .table) ≡ mostCommands) (b : Begins many (s .table) all) where
+module _ (d : Drives) (n many : ℕ) (s : State) (all : List Record) (full : length (s .table) ≡ mostCommands) (b : Begins many (s .table) all) where
   abbrev whole : State
   whole = record { table = all; store = s .store }
 
@@ -164,7 +164,7 @@ module _ (d : Drive) (n many : ℕ) (s : State) (all : List Record) (full : leng
 
 -- ---- by value
 
-module _ (d : Drive) (n : ℕ) (s : State) (full : length (s .table) ≡ mostCommands) where
+module _ (d : Drives) (n : ℕ) (s : State) (full : length (s .table) ≡ mostCommands) where
   -- the steps taken may be laid into the table on a refusal too: they are as they were
   laid-anyway : (go : State → Tally) (r : RanTaken) (v : Store) → RunTakes d n go mostCommands s r v → tableWith (r .taken) (s .table) ≡ cond (eqb (r .ran .number) 0) (tableWith (r .taken) (s .table)) (s .table)
   unfolding RunTakes runTakes runReply

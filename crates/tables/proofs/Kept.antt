@@ -6,7 +6,7 @@ use mathlib.Core.Bool.{Bool, true, false, cond}
 use mathlib.Core.List.{List, [], _∷_, _++_}
 use lib.ListN.{length, getD, set, take, drop, take-append-drop}
 use lib.Dec.{eqb}
-use Rattle.meaning.specs.declared.Drive.{Drive}
+use Rattle.meaning.specs.Drives.{Drives}
 use Rattle.meaning.specs.declared.Record.{Record}
 use Rattle.meaning.specs.Store.{Store}
 use Rattle.meaning.specs.State.{State}
@@ -14,7 +14,8 @@ use Rattle.meaning.specs.Command.{remaining, noRecord}
 use Rattle.meaning.specs.Step.{stepped}
 use Rattle.meaning.specs.Pick.{pickNumber, stepAt}
 use Rattle.meaning.specs.Run.{Tally, atStart, onePick, picksFrom, byPicks, advanced, stepsDone, written, asWritten}
-use Rattle.board.specs.Changes.{withTaken, tableWith, takenOf}
+use Rattle.meaning.specs.Step.{withTaken}
+use Rattle.board.specs.Changes.{tableWith, takenOf}
 use Rattle.board.proofs.Taken.{with-own, with-with, steps-with}
 
 -- all but the steps taken
@@ -40,7 +41,7 @@ forgotten-append (r ∷ t) u = ap (λ (v : List Record). withTaken 0 r ∷ v) (f
 
 -- ---- by picks
 
-forgotten-pick : (d : Drive) (n p : ℕ) (y : Tally) → forgotten (onePick d n p y .state .table) ≡ forgotten (y .state .table)
+forgotten-pick : (d : Drives) (n p : ℕ) (y : Tally) → forgotten (onePick d n p y .state .table) ≡ forgotten (y .state .table)
 unfolding onePick stepAt
 forgotten-pick d n p y = go (eqb (pickNumber d n p (y .state)) 0)
   where
@@ -48,25 +49,25 @@ forgotten-pick d n p y = go (eqb (pickNumber d n p (y .state)) 0)
     go true = forgotten-set (y .state .table) p
     go false = refl
 
-forgotten-picks : (d : Drive) (n : ℕ) (ps : List ℕ) (y : Tally) → forgotten (picksFrom d n ps y .state .table) ≡ forgotten (y .state .table)
+forgotten-picks : (d : Drives) (n : ℕ) (ps : List ℕ) (y : Tally) → forgotten (picksFrom d n ps y .state .table) ≡ forgotten (y .state .table)
 unfolding picksFrom
 forgotten-picks d n [] y = refl
 forgotten-picks d n (p ∷ ps) y = forgotten-picks d n ps (onePick d n p y) ∙ forgotten-pick d n p y
 
-pub by-picks-kept : (d : Drive) (n : ℕ) (ps : List ℕ) (s : State) → forgotten (byPicks d n ps s .state .table) ≡ forgotten (s .table)
+pub by-picks-kept : (d : Drives) (n : ℕ) (ps : List ℕ) (s : State) → forgotten (byPicks d n ps s .state .table) ≡ forgotten (s .table)
 unfolding byPicks
 by-picks-kept d n ps s = forgotten-picks d n ps (atStart s)
 
 -- ---- as written
 
-forgotten-written : (d : Drive) (b : ℕ) (t : List Record) (s : Store) → forgotten (written d b t s .state .table) ≡ forgotten t
+forgotten-written : (d : Drives) (b : ℕ) (t : List Record) (s : Store) → forgotten (written d b t s .state .table) ≡ forgotten t
 unfolding written
 forgotten-written d b [] s = refl
 forgotten-written d b (r ∷ t) s =
     let k = min b (remaining r) in
     λ j. forgotten-advanced k r j ∷ forgotten-written d (b - k) t (stepsDone d k r s) j
 
-pub as-written-kept : (d : Drive) (n b : ℕ) (s : State) → forgotten (asWritten d n b s .state .table) ≡ forgotten (s .table)
+pub as-written-kept : (d : Drives) (n b : ℕ) (s : State) → forgotten (asWritten d n b s .state .table) ≡ forgotten (s .table)
 unfolding asWritten
 as-written-kept d n b s =
     let w = written d b (take n (s .table)) (s .store) in

@@ -9,7 +9,7 @@ use lib.ListN.{length, getD, set, take, drop, length-set, length-append, List·g
 use lib.Seq.{take-append-le, drop-append-le, set-append-left}
 use lib.Dec.{leb, eqb}
 use borrow.Author.Tests.{eqb-true}
-use Rattle.meaning.specs.declared.Drive.{Drive}
+use Rattle.meaning.specs.Drives.{Drives}
 use Rattle.meaning.specs.declared.Record.{Record}
 use Rattle.meaning.specs.Each.{someOf}
 use Rattle.meaning.specs.State.{State, mostCommands}
@@ -31,7 +31,7 @@ behind y rest = record { steps = y .steps; refused = y .refused; state = longer 
 
 -- ---- the numbers
 
-module _ (d : Drive) (n : ℕ) (s : State) (rest : List Record) (full : mostCommands ≤ length (s .table)) where
+module _ (d : Drives) (n : ℕ) (s : State) (rest : List Record) (full : mostCommands ≤ length (s .table)) where
   sizes-longer : sizesWrong d (longer s rest) ≡ sizesWrong d s
   sizes-longer = full-table d (longer s rest) (omega (arith, length-append (s .table) rest)) ∙ sym (full-table d s full)
 
@@ -79,7 +79,7 @@ module _ (d : Drive) (n : ℕ) (s : State) (rest : List Record) (full : mostComm
 
 -- ---- what is left
 
-step-longer : (d : Drive) (p : ℕ) (s : State) (rest : List Record) → p < length (s .table) → stepAt d p (longer s rest) ≡ longer (stepAt d p s) rest
+step-longer : (d : Drives) (p : ℕ) (s : State) (rest : List Record) → p < length (s .table) → stepAt d p (longer s rest) ≡ longer (stepAt d p s) rest
 unfolding stepAt
 step-longer d p s rest h =
     let same = List·getD-append (s .table) rest noRecord p h in
@@ -90,14 +90,14 @@ step-longer d p s rest h =
     }
 
 -- an accepted pick is at a place of the table
-accepted-at : (d : Drive) (n p : ℕ) (s : State) → mostCommands ≤ length (s .table) → pickNumber d n p s ≡ 0 → p < length (s .table)
+accepted-at : (d : Drives) (n p : ℕ) (s : State) → mostCommands ≤ length (s .table) → pickNumber d n p s ≡ 0 → p < length (s .table)
 accepted-at d n p s full e =
     let q = pick-passed d n s p e in
     let few = most-32 d n s (q .0) in
     let used = place-free (s .table) n p (q .1) .inUse in
     omega arith
 
-pick-behind : (d : Drive) (n p : ℕ) (y : Tally) (rest : List Record) → mostCommands ≤ length (y .state .table) → onePick d n p (behind y rest) ≡ behind (onePick d n p y) rest
+pick-behind : (d : Drives) (n p : ℕ) (y : Tally) (rest : List Record) → mostCommands ≤ length (y .state .table) → onePick d n p (behind y rest) ≡ behind (onePick d n p y) rest
 unfolding onePick
 pick-behind d n p y rest full =
     ap (λ (k : ℕ). cond (eqb k 0) (taken (stepAt d p (longer (y .state) rest))) (passed (longer (y .state) rest))) (pick-longer d n (y .state) rest full p)
@@ -114,7 +114,7 @@ pick-behind d n p y rest full =
     go true e = ap taken (step-longer d p (y .state) rest (accepted-at d n p (y .state) full (eqb-true (pickNumber d n p (y .state)) 0 e)))
     go false e = refl
 
-pick-long : (d : Drive) (n p : ℕ) (y : Tally) → length (onePick d n p y .state .table) ≡ length (y .state .table)
+pick-long : (d : Drives) (n p : ℕ) (y : Tally) → length (onePick d n p y .state .table) ≡ length (y .state .table)
 unfolding onePick stepAt
 pick-long d n p y = go (eqb (pickNumber d n p (y .state)) 0)
   where
@@ -122,17 +122,17 @@ pick-long d n p y = go (eqb (pickNumber d n p (y .state)) 0)
     go true = length-set (y .state .table) p (stepped (getD (y .state .table) p noRecord))
     go false = refl
 
-picks-behind : (d : Drive) (n : ℕ) (ps : List ℕ) (y : Tally) (rest : List Record) → mostCommands ≤ length (y .state .table) → picksFrom d n ps (behind y rest) ≡ behind (picksFrom d n ps y) rest
+picks-behind : (d : Drives) (n : ℕ) (ps : List ℕ) (y : Tally) (rest : List Record) → mostCommands ≤ length (y .state .table) → picksFrom d n ps (behind y rest) ≡ behind (picksFrom d n ps y) rest
 unfolding picksFrom
 picks-behind d n [] y rest full = refl
 picks-behind d n (p ∷ ps) y rest full =
     ap (picksFrom d n ps) (pick-behind d n p y rest full) ∙ picks-behind d n ps (onePick d n p y) rest (rw (pick-long d n p y) full)
 
-pub by-picks-longer : (d : Drive) (n : ℕ) (ps : List ℕ) (s : State) (rest : List Record) → mostCommands ≤ length (s .table) → byPicks d n ps (longer s rest) ≡ behind (byPicks d n ps s) rest
+pub by-picks-longer : (d : Drives) (n : ℕ) (ps : List ℕ) (s : State) (rest : List Record) → mostCommands ≤ length (s .table) → byPicks d n ps (longer s rest) ≡ behind (byPicks d n ps s) rest
 unfolding byPicks
 by-picks-longer d n ps s rest full = picks-behind d n ps (atStart s) rest full
 
-pub as-written-longer : (d : Drive) (n b : ℕ) (s : State) (rest : List Record) → n ≤ length (s .table) → asWritten d n b (longer s rest) ≡ behind (asWritten d n b s) rest
+pub as-written-longer : (d : Drives) (n b : ℕ) (s : State) (rest : List Record) → n ≤ length (s .table) → asWritten d n b (longer s rest) ≡ behind (asWritten d n b s) rest
 unfolding asWritten
 as-written-longer d n b s rest h =
     let front = take-append-le n (s .table) rest h in

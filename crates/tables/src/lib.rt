@@ -7,13 +7,15 @@ use board::table;
 use chain::links;
 use command::sound;
 use command::touch;
-use meaning::Drive;
+use meaning::LentDrives;
 use meaning::PickedTable;
 use meaning::RanTable;
 use meaning::Record;
 ghost use mathlib.Core.Path.{_≡_};
 ghost use Prim.Native.Nat.{_≤_, _<_};
-ghost use Rattle.meaning.specs.State.{stateOf, mostCommands};
+ghost use Rattle.meaning.specs.Store.{lent, images};
+ghost use Rattle.meaning.specs.Drives.{drivesOf};
+ghost use Rattle.meaning.specs.State.{stateIn, mostCommands};
 ghost use Rattle.meaning.specs.Bench.{noRecords};
 ghost use Rattle.meaning.specs.Pick.{PickGives};
 ghost use Rattle.meaning.specs.Run.{RunGives, byPicks, asWritten};
@@ -35,10 +37,10 @@ pub fn no_records() -> [Record; 32]
         taken: 0,
         ranges: 0,
         count: 0,
+        unit: 0,
         byte0: 0,
         code: 0,
         fitted: 0,
-        unused: 0,
         list,
     };
     [none; 32]
@@ -58,18 +60,24 @@ fn table_with(table: [Record; 32], taken: [u32; 32]) -> [Record; 32]
 }
 
 // What a pick sees of a table by value, of which n records are in use.
-fn look_over(table: [Record; 32], memory: u64, d: Drive, n: usize, place: usize) -> Sight
+fn look_over(
+    table: [Record; 32],
+    memory: u64,
+    l: LentDrives,
+    n: usize,
+    place: usize,
+) -> Sight
     requires { ⌜ (n ≤ mostCommands) × (place < mostCommands) ⌝ }
-    ensures { λ s. ⌜ s ≡ sightOf memory d n place table ⌝ }
+    ensures { λ s. ⌜ s ≡ sightOf memory (drivesOf l) n place table ⌝ }
 {
     let wanted = touch::footprint_of(table[place]);
     let mut bad = false;
     let mut blocked = false;
     let mut k = 0;
     while k < n {
-        let l = sound::look(memory, d, table[k], wanted, k < place);
-        bad = bad | l.bad;
-        if l.near {
+        let seen = sound::look(memory, l, table[k], wanted, k < place);
+        bad = bad | seen.bad;
+        if seen.near {
             blocked = blocked | touch::ranges_conflict(table[k], table[place]);
         }
         k += 1;
@@ -80,18 +88,23 @@ fn look_over(table: [Record; 32], memory: u64, d: Drive, n: usize, place: usize)
 // A pick on a table by value: on 0 one step at its place; on any other number nothing is changed.
 pub fn pick(
     memory: &mut [u8],
-    image: &mut [u8],
-    d: Drive,
+    image0: &mut [u8],
+    image1: &mut [u8],
+    image2: &mut [u8],
+    image3: &mut [u8],
+    l: LentDrives,
     table: [Record; 32],
     commands: usize,
     place: usize,
 ) -> PickedTable
-    ensures { λ r. ⌜ PickGives d commands place (stateOf (now (memory .entry)) (now (image .entry)) table) (r .number) (stateOf (now (memory .exit)) (now (image .exit)) (r .table)) ⌝ }
+    ensures { λ r. ⌜ PickGives (drivesOf l) commands place (stateIn (lent (now (memory .entry)) (images (now (image0 .entry)) (now (image1 .entry)) (now (image2 .entry)) (now (image3 .entry)))) table) (r .number) (stateIn (lent (now (memory .exit)) (images (now (image0 .exit)) (now (image1 .exit)) (now (image2 .exit)) (now (image3 .exit)))) (r .table)) ⌝ }
 {
     let size = memory.len() as u64;
     let at = pick::place_seen(place);
-    let seen = look_over(table, size, d, run::in_table(commands), at);
-    let picked = pick::pick_seen(memory, image, d, table[at], seen, commands, place);
+    let seen = look_over(table, size, l, run::in_table(commands), at);
+    let picked = pick::pick_seen(
+        memory, image0, image1, image2, image3, l, table[at], seen, commands, place,
+    );
     let mut after = table;
     if picked.number == 0 {
         after[at] = table::with_taken(table[at], picked.taken);
@@ -105,15 +118,20 @@ pub fn pick(
 // A run by picks on a table by value: a refused pick is passed over, and counted. On 1 and 9 nothing is changed.
 pub fn run_picks(
     memory: &mut [u8],
-    image: &mut [u8],
-    d: Drive,
+    image0: &mut [u8],
+    image1: &mut [u8],
+    image2: &mut [u8],
+    image3: &mut [u8],
+    l: LentDrives,
     table: [Record; 32],
     commands: usize,
     picks: &[u8],
 ) -> RanTable
-    ensures { λ r. ⌜ RunGives d commands (byPicks d commands (now (picks .entry))) (stateOf (now (memory .entry)) (now (image .entry)) table) (r .ran) (stateOf (now (memory .exit)) (now (image .exit)) (r .table)) ⌝ }
+    ensures { λ r. ⌜ RunGives (drivesOf l) commands (byPicks (drivesOf l) commands (now (picks .entry))) (stateIn (lent (now (memory .entry)) (images (now (image0 .entry)) (now (image1 .entry)) (now (image2 .entry)) (now (image3 .entry)))) table) (r .ran) (stateIn (lent (now (memory .exit)) (images (now (image0 .exit)) (now (image1 .exit)) (now (image2 .exit)) (now (image3 .exit)))) (r .table)) ⌝ }
 {
-    let r = run::picks_taken(memory, image, d, table, RECORDS, commands, picks);
+    let r = run::picks_taken(
+        memory, image0, image1, image2, image3, l, table, RECORDS, commands, picks,
+    );
     let ran = r.ran;
     let taken = r.taken;
     RanTable {
@@ -125,15 +143,20 @@ pub fn run_picks(
 // A run as written on a table by value, within a step budget. On 1 and 9 nothing is changed.
 pub fn run_written(
     memory: &mut [u8],
-    image: &mut [u8],
-    d: Drive,
+    image0: &mut [u8],
+    image1: &mut [u8],
+    image2: &mut [u8],
+    image3: &mut [u8],
+    l: LentDrives,
     table: [Record; 32],
     commands: usize,
     budget: u64,
 ) -> RanTable
-    ensures { λ r. ⌜ RunGives d commands (asWritten d commands budget) (stateOf (now (memory .entry)) (now (image .entry)) table) (r .ran) (stateOf (now (memory .exit)) (now (image .exit)) (r .table)) ⌝ }
+    ensures { λ r. ⌜ RunGives (drivesOf l) commands (asWritten (drivesOf l) commands budget) (stateIn (lent (now (memory .entry)) (images (now (image0 .entry)) (now (image1 .entry)) (now (image2 .entry)) (now (image3 .entry)))) table) (r .ran) (stateIn (lent (now (memory .exit)) (images (now (image0 .exit)) (now (image1 .exit)) (now (image2 .exit)) (now (image3 .exit)))) (r .table)) ⌝ }
 {
-    let r = run::written_taken(memory, image, d, table, RECORDS, commands, budget);
+    let r = run::written_taken(
+        memory, image0, image1, image2, image3, l, table, RECORDS, commands, budget,
+    );
     let ran = r.ran;
     let taken = r.taken;
     RanTable {

@@ -1,10 +1,12 @@
 //! Random calls after a walk: picks, lists, runs, looks, places and views, by tables of any lent
 //! length, and things that a host may do in between.
 
+use crate::declared::UNITS;
 use crate::differ::call::{Call, Reply};
 use crate::differ::play::{Play, Played};
 use crate::differ::sides::RECORDS;
 use crate::differ::spoil::{spoil_and_call, wrong_size_and_call};
+use crate::differ::units::{any_unit, some_unit};
 use second::drive::Drive;
 use second::makers::rng::Rng;
 
@@ -143,12 +145,13 @@ fn host_writes(play: &mut Play) {
     play.sides.put(at as usize, &bytes);
 }
 
-/// Looks at a sector, asks for a place, and views an IOPB or two, at edges and where the chain lies.
+/// Looks at a sector of some unit, asks for a place, and views an IOPB or two, at edges and where the
+/// chain lies.
 pub fn look_around(play: &mut Play) -> Played {
-    let sector = random_sector(play);
-    play.call(Call::Look { sector })?;
-    let sector = random_sector(play);
-    play.call(Call::Place { sector })?;
+    look(play)?;
+    let unit = some_unit(&mut play.rng, play.sides.ground());
+    let sector = random_sector(play, unit);
+    play.call(Call::Place { unit, sector })?;
     for _ in 0..play.rng.between(1, 2) {
         let at = random_address(play);
         play.call(Call::View { at: at.min(0xFFFF_FFFF) as u32 })?;
@@ -156,10 +159,24 @@ pub fn look_around(play: &mut Play) -> Played {
     Ok(())
 }
 
-/// A sector's number: mostly one that the drive has, often at the end of a head; now and then past the
-/// last, also one that the drive would have if its heads were equal.
-pub fn random_sector(play: &mut Play) -> u32 {
-    let drive = play.sides.ground().drive;
+/// Looks at a sector of any unit, mostly of one that is there.
+pub fn look(play: &mut Play) -> Played {
+    let unit = any_unit(&mut play.rng, play.sides.ground());
+    // of a unit that is not there, a sector that another has
+    let other = play.rng.below(UNITS as u64) as usize;
+    let drive_of = if usize::from(unit) < UNITS { unit.into() } else { other };
+    let sector = random_sector(play, drive_of);
+    play.call(Call::Look { unit, sector })?;
+    Ok(())
+}
+
+/// A sector's number on the drive lent for a unit: mostly one that the drive has, often at the end of a
+/// head; now and then past the last, also one that the drive would have if its heads were equal, or that
+/// another unit's drive has.
+pub fn random_sector(play: &mut Play, unit: usize) -> u32 {
+    let drive = play.sides.ground().units[unit].drive;
+    let other = play.rng.below(UNITS as u64) as usize;
+    let others = play.sides.ground().units[other].drive.number_of_sectors();
     let sectors = drive.number_of_sectors();
     let rng = &mut play.rng;
     let sector = match rng.below(20) {
@@ -167,7 +184,8 @@ pub fn random_sector(play: &mut Play) -> u32 {
         2 => rng.one_of(&[sectors + 1, 0xFFFF_FFFF]),
         3 => drive.as_if_equal().number_of_sectors() - 1,
         4 | 5 => sectors - 1,
-        6..=9 => end_of_a_head(rng, &drive),
+        6 => others - 1,
+        7..=9 => end_of_a_head(rng, &drive),
         _ => rng.below(sectors),
     };
     sector.min(0xFFFF_FFFF) as u32

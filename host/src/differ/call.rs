@@ -1,20 +1,21 @@
 //! One call of a board, and its reply, in a form that both sides share.
 
 use crate::declared::{Ran, Walked};
-use second::board::Board;
+use second::board::{Board, Unit};
 use second::place::Place;
 use second::record::MOST_COMMANDS;
 use std::fmt;
 
-/// A call. `lent` is the length of the table that is lent for it.
+/// A call. `lent` is the length of the table that is lent for it. A place is asked of the drive that is
+/// lent for a unit, there or not.
 #[derive(Clone, Debug, PartialEq, Eq)]
 pub enum Call {
     Walk { start: u32, lent: usize },
     Pick { place: usize, commands: usize, lent: usize },
     Picks { picks: Vec<u8>, commands: usize, lent: usize },
     Written { budget: u64, commands: usize, lent: usize },
-    Look { sector: u32 },
-    Place { sector: u32 },
+    Look { unit: u8, sector: u32 },
+    Place { unit: usize, sector: u32 },
     View { at: u32 },
 }
 
@@ -24,7 +25,7 @@ pub enum Reply {
     Walked(Walked),
     Picked(u8),
     Ran(Ran),
-    /// The number, and where the part of the image lies.
+    /// The number, and where the part of the unit's image lies.
     Looked {
         number: u8,
         at: usize,
@@ -56,8 +57,8 @@ impl Call {
         }
     }
 
-    /// Whether all that it gives 1 for is right, but for the drive and its image; none if it does
-    /// not test an image.
+    /// Whether all that it gives 1 for is right, but for the drives and images; none if it does not
+    /// test an image.
     pub fn others_right(&self, ground: &Board) -> Option<bool> {
         match self {
             Call::Walk { lent, .. }
@@ -68,6 +69,26 @@ impl Call {
             }
             Call::Look { .. } => Some(true),
             Call::Place { .. } | Call::View { .. } => None,
+        }
+    }
+
+    /// The one unit for whose drive and image alone it gives 1, if there is one.
+    pub fn unit_alone_wrong<'a>(&self, ground: &'a Board) -> Option<(usize, &'a Unit)> {
+        let mut wrong =
+            ground.units.iter().enumerate().filter(|(_, u)| u.there && !u.image_right());
+        match (self.others_right(ground), wrong.next(), wrong.next()) {
+            (Some(true), Some(alone), None) => Some(alone),
+            _ => None,
+        }
+    }
+
+    /// The number of commands, of a call that takes steps.
+    pub fn commands(&self) -> Option<usize> {
+        match self {
+            Call::Pick { commands, .. }
+            | Call::Picks { commands, .. }
+            | Call::Written { commands, .. } => Some(*commands),
+            _ => None,
         }
     }
 }
@@ -101,8 +122,10 @@ impl fmt::Display for Call {
                 out,
                 "run as written, budget {budget}, of {commands} commands, with {lent} records lent"
             ),
-            Call::Look { sector } => write!(out, "look at sector {sector}"),
-            Call::Place { sector } => write!(out, "place of sector {sector}"),
+            Call::Look { unit, sector } => write!(out, "look at sector {sector} of unit {unit}"),
+            Call::Place { unit, sector } => {
+                write!(out, "place of sector {sector} on the drive lent for unit {unit}")
+            }
             Call::View { at } => write!(out, "view at {at}"),
         }
     }

@@ -1,10 +1,10 @@
 //! How often each number and each code came up, each thing that the last head's own maximum or a link
-//! list changes, numbers at the edges of 16 and 32 bits, and numbers of sectors that would have fitted, so
-//! that one can see that all were reached.
+//! list changes, numbers at the edges of 16 and 32 bits, numbers of sectors that would have fitted, and
+//! what several units change, so that one can see that all were reached.
 
 use crate::differ::call::{Call, Reply};
 use crate::differ::sides::RECORDS;
-use crate::differ::{fitted_rows, last_head, list_rows, wide_rows};
+use crate::differ::{fitted_rows, last_head, list_rows, unit_rows, unit_steps, wide_rows};
 use second::board::Board;
 use second::record::Record;
 use std::collections::BTreeMap;
@@ -15,7 +15,7 @@ const NUMBERS: [(&str, &[u8]); 7] = [
     ("pick", &[0, 1, 6, 7, 8, 9]),
     ("run by picks", &[0, 1, 9]),
     ("run as written", &[0, 1, 9]),
-    ("look", &[0, 1, 10]),
+    ("look", &[0, 1, 10, 11]),
     ("place", &[0, 1, 10]),
     ("view", &[0, 2, 3]),
 ];
@@ -53,6 +53,8 @@ fn all_rows() -> Vec<String> {
         .chain(lists)
         .chain(wide)
         .chain(fitted)
+        .chain(unit_rows::all_rows())
+        .chain(unit_steps::all_rows())
         .collect()
 }
 
@@ -68,8 +70,10 @@ impl Counts {
     pub fn see(&mut self, call: &Call, reply: &Reply, ground: &Board, table: &[Record; RECORDS]) {
         self.calls += 1;
         self.add(number_row(call.word(), reply.number()), 1);
-        for row in last_head::rows(call, reply, ground, table) {
-            self.add(row, 1);
+        for rows in [last_head::rows, unit_rows::rows, unit_steps::rows] {
+            for row in rows(call, reply, ground, table) {
+                self.add(row, 1);
+            }
         }
         for rows in [list_rows::rows, wide_rows::rows, fitted_rows::rows] {
             for row in rows(call, reply, ground, table) {
@@ -108,7 +112,7 @@ impl Counts {
 
     /// The counts, one row to a line.
     pub fn text(&self) -> String {
-        let line = |row: &str, times: u64| format!("{row:<55} {times:>10}\n");
+        let line = |row: &str, times: u64| format!("{row:<70} {times:>10}\n");
         let mut text = line("chains", self.chains) + &line("calls", self.calls);
         for row in all_rows() {
             text += &line(&row, self.rows[&row]);

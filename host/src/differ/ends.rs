@@ -5,6 +5,7 @@ use crate::differ::acts::{act, walk};
 use crate::differ::call::Call;
 use crate::differ::make::{lay_ground, put_chain};
 use crate::differ::play::{Play, Played};
+use crate::differ::units::{aimed_at, spread, unit_of};
 use second::board::{Board, SECTOR_BYTES};
 use second::drive::Drive;
 use second::makers::block::Block;
@@ -23,10 +24,13 @@ const SGM: u8 = 0x10;
 /// was posted.
 pub fn chain_about_ends(play: &mut Play) -> Played {
     lay_ground(play, ground_about_ends);
-    let mut chain = random_chain(&mut play.rng, play.sides.ground());
+    let aimed = aimed_at(&mut play.rng, play.sides.ground());
+    let ground = play.sides.ground();
+    let mut chain = random_chain(&mut play.rng, ground.memory_bytes(), &ground.units[aimed].drive);
+    spread(&mut play.rng, ground, aimed, &mut chain);
     for (_, block) in &mut chain.blocks {
         if play.rng.percent(80) {
-            *block = about_an_end(&mut play.rng, play.sides.ground(), *block);
+            *block = about_an_end(&mut play.rng, ground, *block);
         }
     }
     put_chain(play, chain);
@@ -50,7 +54,7 @@ fn leave_old_records(play: &mut Play) {
         let rng = &mut play.rng;
         let old = Record {
             fitted: rng.byte(),
-            unused_byte: rng.byte(),
+            unit: rng.byte(),
             unused: std::array::from_fn(|_| rng.next() as u16),
             ..Record::default()
         };
@@ -77,16 +81,17 @@ fn ground_about_ends(rng: &mut Rng, script: &mut Script) {
 /// The same command, made a transfer about one end or about both; or on a cylinder above its maximum.
 fn about_an_end(rng: &mut Rng, ground: &Board, block: Block) -> Block {
     let command = rng.one_of(&[1, 2, 2]);
-    let block = block.command(command).subfunction(0).unit(0);
+    let block = block.command(command).subfunction(0);
+    let drive = ground.drive_of(unit_of(&block));
     match rng.below(11) {
-        0..=4 => about_drive_end(rng, ground, block),
+        0..=4 => about_drive_end(rng, &drive, block),
         5..=7 => about_memory_end(rng, ground, block),
         8 | 9 => {
             let late = about_memory_end(rng, ground, block);
-            about_drive_end(rng, ground, late)
+            about_drive_end(rng, &drive, late)
         }
         _ => {
-            let cylinder = u64::from(ground.drive.max_cylinder) + rng.between(1, 3);
+            let cylinder = u64::from(drive.max_cylinder) + rng.between(1, 3);
             let (head, sector) = (rng.below(3), rng.below(4));
             block.at(cylinder.min(0xFFFF), head, sector).count(rng.one_of(&[1, 2, 300, 0xFFFF]))
         }
@@ -95,15 +100,15 @@ fn about_an_end(rng: &mut Rng, ground: &Board, block: Block) -> Block {
 
 /// So many sectors before the end of the drive, with a count of as many, of one more or of far more. A
 /// list stays as it is.
-fn about_drive_end(rng: &mut Rng, ground: &Board, block: Block) -> Block {
-    let all = ground.drive.number_of_sectors();
+fn about_drive_end(rng: &mut Rng, drive: &Drive, block: Block) -> Block {
+    let all = drive.number_of_sectors();
     let left = match rng.below(4) {
         0 | 1 => rng.one_of(&[1, 1, 2, 254, 255, 255, 256, 256, 257]),
         2 => all,
         _ => rng.between(1, all),
     };
     let left = left.min(all);
-    let place = counted_to(&ground.drive, all - left).expect("the drive has this sector");
+    let place = counted_to(drive, all - left).expect("the drive has this sector");
     let count = rng.one_of(&[left, left + 1, left + 1, 2 * left, 2 * left + 1, 0xFFFF]);
     block.at(place.cylinder, place.head, place.sector).count(count)
 }

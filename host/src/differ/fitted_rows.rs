@@ -4,6 +4,7 @@
 use crate::differ::call::{Call, Reply};
 use second::board::{Board, SECTOR_BYTES};
 use second::code::find;
+use second::drive::Drive;
 use second::iopb::{view, Fields};
 use second::record::Record;
 
@@ -108,11 +109,12 @@ fn chosen<const N: usize>(rows: [(bool, &'static str); N]) -> Vec<&'static str> 
 fn walked_rows(ground: &Board, record: &Record) -> Vec<&'static str> {
     let (_, fields) = view(ground, record.iopb.into());
     let listed = fields.sgm == 1;
+    let drive = ground.drive_of(fields.unit);
     match record.code {
-        0x10 if fields.cylinder > ground.drive.max_cylinder.into() => {
+        0x10 if fields.cylinder > drive.max_cylinder.into() => {
             chosen([(!listed, CYLINDER), (listed, CYLINDER_LIST)])
         }
-        0x10 => drive_rows(ground, record, &fields),
+        0x10 => drive_rows(ground, &drive, record, &fields),
         0x4B if !listed => memory_rows(ground, record),
         0x4B if record.has_list() => chosen([(range_has_room(ground, record), RANGE)]),
         0x90 if !listed => chosen([(past_memory(ground, record), WRITE_90)]),
@@ -130,8 +132,13 @@ fn past_memory(ground: &Board, record: &Record) -> bool {
     u64::from(record.data) + record.data_bytes() > ground.memory_bytes()
 }
 
-fn drive_rows(ground: &Board, record: &Record, fields: &Fields) -> Vec<&'static str> {
-    let fitted = ground.drive.number_of_sectors() - u64::from(record.sector);
+fn drive_rows(
+    ground: &Board,
+    drive: &Drive,
+    record: &Record,
+    fields: &Fields,
+) -> Vec<&'static str> {
+    let fitted = drive.number_of_sectors() - u64::from(record.sector);
     let listed = fields.sgm == 1;
     let by_memory = left_in_memory(ground, record) / SECTOR_BYTES;
     let by_number = match fitted {
@@ -146,7 +153,7 @@ fn drive_rows(ground: &Board, record: &Record, fields: &Fields) -> Vec<&'static 
         (fields.count - fitted != fitted, DRIVE_REST),
         (listed, DRIVE_LIST),
         (listed && fitted >= 255, DRIVE_LIST_255),
-        (fields.command == 1 && ground.drive.protected, DRIVE_WRITE),
+        (fields.command == 1 && drive.protected, DRIVE_WRITE),
         (!listed && past_memory(ground, record) && by_memory != fitted.min(255), BOTH),
     ])
 }
@@ -154,7 +161,7 @@ fn drive_rows(ground: &Board, record: &Record, fields: &Fields) -> Vec<&'static 
 fn memory_rows(ground: &Board, record: &Record) -> Vec<&'static str> {
     let (address, memory) = (u64::from(record.data), ground.memory_bytes());
     let left = left_in_memory(ground, record);
-    let fitted = left / SECTOR_BYTES;
+    let (fitted, over) = (left / SECTOR_BYTES, left % SECTOR_BYTES);
     let by_number = match fitted {
         0 if address < memory => MEMORY_0,
         0 if address == memory => MEMORY_AT,
@@ -165,8 +172,8 @@ fn memory_rows(ground: &Board, record: &Record) -> Vec<&'static str> {
     };
     chosen([
         (true, by_number),
-        (fitted > 0 && left % SECTOR_BYTES == 0, MEMORY_WHOLE),
-        (left % SECTOR_BYTES == SECTOR_BYTES - 1, MEMORY_511),
+        (fitted > 0 && over == 0, MEMORY_WHOLE),
+        (over == SECTOR_BYTES - 1, MEMORY_511),
         (u64::from(record.count) - fitted != fitted, MEMORY_REST),
     ])
 }

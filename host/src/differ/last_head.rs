@@ -2,7 +2,7 @@
 //! most of them are calls that would have come out otherwise on a drive with equal heads.
 
 use crate::differ::call::{Call, Reply};
-use second::board::{Board, IMAGE_LIMIT, SECTOR_BYTES};
+use second::board::{Board, Unit, IMAGE_LIMIT, SECTOR_BYTES};
 use second::drive::Drive;
 use second::iopb::{view, Fields};
 use second::record::{causes, Cause, Record};
@@ -56,14 +56,22 @@ pub fn all_rows() -> Vec<String> {
 
 /// The rows of a call on this ground; after a walk its commands are at the front of the table.
 pub fn rows(call: &Call, reply: &Reply, ground: &Board, table: &[Record]) -> Vec<String> {
-    let drive = &ground.drive;
-    let equal_sectors = drive.as_if_equal().number_of_sectors();
+    let equal_has = |unit: usize, sector: u32| {
+        let equal = ground.units[unit].drive.as_if_equal();
+        u64::from(sector) < equal.number_of_sectors()
+    };
     let plain = match (call, reply, reply.number()) {
         (_, Reply::Walked(walked), 0) => walk_rows(ground, &table[..walked.commands]),
-        (Call::Look { sector }, _, 10) if u64::from(*sector) < equal_sectors => vec![LOOK_10],
-        (Call::Place { sector }, _, 10) if u64::from(*sector) < equal_sectors => vec![PLACE_10],
-        (_, Reply::Placed { place, .. }, 0) if shorter(drive) && drive.is_last_head(place.head) => {
-            vec![PLACE_0]
+        (Call::Look { unit, sector }, _, 10) if equal_has((*unit).into(), *sector) => vec![LOOK_10],
+        (Call::Place { unit, sector }, _, 10) if equal_has(*unit, *sector) => vec![PLACE_10],
+        (Call::Place { unit, .. }, Reply::Placed { place, .. }, 0) => {
+            let drive = &ground.units[*unit].drive;
+            let on_last = shorter(drive) && drive.is_last_head(place.head);
+            if on_last {
+                vec![PLACE_0]
+            } else {
+                Vec::new()
+            }
         }
         (_, _, 1) => return rows_of_one(call, ground),
         (_, _, 9) => rows_of_nine(call, ground, table),
@@ -77,15 +85,16 @@ fn shorter(drive: &Drive) -> bool {
 }
 
 fn walk_rows(ground: &Board, records: &[Record]) -> Vec<&'static str> {
-    let drive = &ground.drive;
-    let mut rows = vec![match (drive.max_head, shorter(drive)) {
+    let of_drive = |unit: &Unit| match (unit.drive.max_head, shorter(&unit.drive)) {
         (0, true) => ONE_SHORTER,
         (0, false) => ONE_EQUAL,
         (_, true) => SHORTER,
         (_, false) => EQUAL,
-    }];
+    };
+    let mut rows: Vec<&str> = ground.present().map(of_drive).collect();
     for record in records {
         let (_, fields) = view(ground, record.iopb.into());
+        let drive = &ground.drive_of(fields.unit);
         rows.extend(code_row(drive, &fields, record));
         if record.is_transfer() && shorter(drive) && over_an_end(drive, record) {
             rows.push(OVER);
@@ -123,33 +132,29 @@ fn over_an_end(drive: &Drive, record: &Record) -> bool {
     first / per_cylinder != last / per_cylinder
 }
 
-/// The rows of a call that gave 1 where all else that this is given for is right.
+/// The rows of a call that gave 1 for one unit, where all else that this is given for is right.
 fn rows_of_one(call: &Call, ground: &Board) -> Vec<String> {
-    let Some(others_right) = call.others_right(ground) else { return Vec::new() };
-    let equal_bytes = SECTOR_BYTES * ground.drive.as_if_equal().number_of_sectors();
-    let as_equal = ground.image.len() as u64 == equal_bytes && equal_bytes <= IMAGE_LIMIT;
-    match (others_right, ground.drive.last_head_right()) {
-        (true, false) if ground.image_fits() => vec![alone(call.word())],
-        (true, true) if as_equal => vec![IMAGE_1.to_string()],
+    let Some((_, unit)) = call.unit_alone_wrong(ground) else { return Vec::new() };
+    let equal_bytes = SECTOR_BYTES * unit.drive.as_if_equal().number_of_sectors();
+    let as_equal = unit.image.len() as u64 == equal_bytes && equal_bytes <= IMAGE_LIMIT;
+    match unit.drive.last_head_right() {
+        false if unit.image_fits() => vec![alone(call.word())],
+        true if as_equal => vec![IMAGE_1.to_string()],
         _ => Vec::new(),
     }
 }
 
 /// The row of a call that gave 9 and on equal heads would not have.
 fn rows_of_nine(call: &Call, ground: &Board, table: &[Record]) -> Vec<&'static str> {
-    let (Call::Pick { commands, .. }
-    | Call::Picks { commands, .. }
-    | Call::Written { commands, .. }) = call
-    else {
-        return Vec::new();
-    };
-    let equal_sectors = ground.drive.as_if_equal().number_of_sectors();
-    let found = causes(ground, table, *commands as u64);
+    let Some(commands) = call.commands() else { return Vec::new() };
+    let found = causes(ground, table, commands as u64);
     let outside_alone = found.into_iter().eq([Cause::SectorsOutside]);
     let within_equal = |record: &Record| {
-        !record.is_transfer() || u64::from(record.sector) + u64::from(record.count) <= equal_sectors
+        let equal = ground.drive_of(record.unit.into()).as_if_equal();
+        let end = u64::from(record.sector) + u64::from(record.count);
+        !record.is_transfer() || end <= equal.number_of_sectors()
     };
-    if outside_alone && table[..*commands].iter().all(within_equal) {
+    if outside_alone && table[..commands].iter().all(within_equal) {
         vec![SECTORS_9]
     } else {
         Vec::new()

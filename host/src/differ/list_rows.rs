@@ -78,12 +78,10 @@ pub fn rows(call: &Call, reply: &Reply, ground: &Board, table: &[Record]) -> Vec
             rows
         }
         (Call::Pick { place, .. }, 6) => waiting_rows(&table[..=*place]),
-        (
-            Call::Pick { commands, .. }
-            | Call::Picks { commands, .. }
-            | Call::Written { commands, .. },
-            9,
-        ) => spoiled_row(ground, table, *commands).into_iter().collect(),
+        (_, 9) => {
+            let commands = call.commands().expect("only calls that take steps give 9");
+            spoiled_row(ground, table, commands).into_iter().collect()
+        }
         _ => Vec::new(),
     }
 }

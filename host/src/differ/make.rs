@@ -1,12 +1,15 @@
 //! Makes and plays the n-th chain of a seed. The seed and the chain's number decide everything.
 
 use crate::boards::Board;
+use crate::declared::UNITS;
 use crate::differ::acts::{act, look_around, random_sector, walk};
 use crate::differ::call::Call;
 use crate::differ::counts::Counts;
 use crate::differ::ends::chain_about_ends;
 use crate::differ::lists::give_list;
+use crate::differ::over_units::chain_over_units;
 use crate::differ::play::{Play, Played};
+use crate::differ::units::{add_units, aimed_at, any_unit, some_unit, spread};
 use second::board::SECTOR_BYTES;
 use second::makers::chain::{random_chain, Chain};
 use second::makers::ground::{any_drive, ground, limit_ground};
@@ -20,7 +23,8 @@ pub fn play_chain(board: &Board, seed: u64, n: u64, counts: &mut Counts, tell: b
     counts.chains += 1;
     let mut play = Play::new(board, Rng::for_case(seed, n), counts, tell);
     match play.rng.below(100) {
-        0..=77 => chain(&mut play),
+        0..=72 => chain(&mut play),
+        73..=77 => chain_over_units(&mut play),
         78..=83 => chain_about_ends(&mut play),
         84..=91 => table_by_hand(&mut play),
         92..=95 => sizes(&mut play),
@@ -29,15 +33,21 @@ pub fn play_chain(board: &Board, seed: u64, n: u64, counts: &mut Counts, tell: b
     }
 }
 
-/// The ground of a chain: drive, memory and image, as the second program's makers give it.
+/// The ground of a chain: memory, and unit 0's drive and image, as the second program's makers give
+/// it; on more than half of all, other units beside it.
 pub fn lay_ground(play: &mut Play, make: fn(&mut Rng, &mut Script)) {
     let mut script = Script::default();
     make(&mut play.rng, &mut script);
-    let board = script.state.board;
-    play.say(|| format!("{:?}, memory of {} bytes", board.drive, board.memory.len()));
-    play.sides.set_drive(board.drive);
-    play.sides.set_memory(board.memory);
-    play.sides.set_image(board.image);
+    let mut board = script.state.board;
+    if play.rng.percent(60) {
+        add_units(&mut play.rng, &mut board);
+    }
+    play.say(|| format!("memory of {} bytes", board.memory.len()));
+    for (number, unit) in board.units.iter().enumerate() {
+        let (there, image) = (if unit.there { "there" } else { "absent" }, unit.image.len());
+        play.say(|| format!("unit {number}, {there}: {:?}, image of {image} bytes", unit.drive));
+    }
+    play.sides.set_ground(board);
 }
 
 /// A random chain, put in memory over a few random bytes.
@@ -50,7 +60,10 @@ fn lay_chain(play: &mut Play) {
             play.sides.put(at, &bytes);
         }
     }
-    let chain = random_chain(&mut play.rng, play.sides.ground());
+    let aimed = aimed_at(&mut play.rng, play.sides.ground());
+    let ground = play.sides.ground();
+    let mut chain = random_chain(&mut play.rng, ground.memory_bytes(), &ground.units[aimed].drive);
+    spread(&mut play.rng, ground, aimed, &mut chain);
     put_chain(play, chain);
 }
 
@@ -127,10 +140,12 @@ fn table_by_hand(play: &mut Play) -> Played {
     Ok(())
 }
 
-/// A record that is mostly sound.
+/// A record that is mostly sound, of any unit.
 fn random_record(play: &mut Play) -> Record {
-    let (memory, drive) = (play.sides.ground().memory_bytes(), play.sides.ground().drive);
+    let (memory, ground) = (play.sides.ground().memory_bytes(), play.sides.ground());
     let rng = &mut play.rng;
+    let unit = if rng.percent(4) { any_unit(rng, ground) } else { some_unit(rng, ground) as u8 };
+    let drive = ground.drive_of(unit.into());
     let sectors = drive.number_of_sectors();
     let count = rng.between(1, sectors.min(memory / SECTOR_BYTES).clamp(1, 4));
     let last_place = memory.saturating_sub(30);
@@ -147,9 +162,9 @@ fn random_record(play: &mut Play) -> Record {
         } else {
             0
         },
-        // any number goes with any code, and nothing looks at the byte after it
+        // any number goes with any code
         fitted: if rng.percent(40) { rng.byte() } else { 0 },
-        unused_byte: if rng.percent(40) { rng.byte() } else { 0 },
+        unit,
         ..Record::default()
     };
     if rng.percent(45) {
@@ -159,6 +174,7 @@ fn random_record(play: &mut Play) -> Record {
         // Nothing of these is looked at where nothing moves.
         (record.data, record.sector) = (rng.next() as u32, rng.next() as u32);
         record.count = rng.next() as u16;
+        record.unit = rng.one_of(&[0, 1, 2, 3, 4, 7, 8, 255, unit]);
     }
     if rng.once_in(4) {
         record.taken = rng.between(0, record.steps()) as u32;
@@ -183,11 +199,12 @@ fn places(play: &mut Play) -> Played {
     for _ in 0..play.rng.between(2, 5) {
         let rng = &mut play.rng;
         let drive = if rng.percent(30) { edge_drive(rng) } else { any_drive(rng) };
-        play.say(|| format!("the drive becomes {drive:?}"));
-        play.sides.set_drive(drive);
+        let unit = rng.below(UNITS as u64) as usize;
+        play.say(|| format!("the drive of unit {unit} becomes {drive:?}"));
+        play.sides.set_drive(unit, drive);
         for _ in 0..play.rng.between(1, 4) {
-            let sector = random_sector(play);
-            play.call(Call::Place { sector })?;
+            let sector = random_sector(play, unit);
+            play.call(Call::Place { unit, sector })?;
         }
     }
     Ok(())

@@ -1,5 +1,5 @@
 //! Random chains, played on a board and on the second program side by side: after every call the
-//! replies and every byte of memory, image and table must be the same.
+//! replies and every byte of memory, of all four images and of the table must be the same.
 
 pub mod acts;
 pub mod call;
@@ -10,7 +10,11 @@ pub mod last_head;
 pub mod list_rows;
 pub mod lists;
 pub mod make;
+pub mod over_units;
 pub mod play;
 pub mod sides;
 pub mod spoil;
+pub mod unit_rows;
+pub mod unit_steps;
+pub mod units;
 pub mod wide_rows;

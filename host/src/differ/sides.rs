@@ -1,10 +1,12 @@
-//! The two sides of a comparison: a board with its memory, image and table, and the second program
+//! The two sides of a comparison: a board with its memory, images and table, and the second program
 //! with its own. Whatever is set is set on both; after each call both are compared whole.
 
 use crate::boards::Board;
-use crate::declared::{Ran, Record, Walked};
+use crate::declared::{Ran, Record, Walked, UNITS};
 use crate::differ::call::{Call, Reply};
-use crate::translate::{drive_of, record_of, second_fields_of, second_place_of};
+use crate::translate::{
+    drive_of, drives_of, lent, lent_mut, record_of, second_fields_of, second_place_of,
+};
 
 /// The records that a caller holds; the lent table is the first of them.
 pub const RECORDS: usize = 40;
@@ -12,7 +14,7 @@ pub const RECORDS: usize = 40;
 pub struct Sides<'a> {
     board: &'a Board,
     memory: Vec<u8>,
-    image: Vec<u8>,
+    images: [Vec<u8>; UNITS],
     table: [Record; RECORDS],
     second: second::board::Board,
     second_table: [second::record::Record; RECORDS],
@@ -24,7 +26,7 @@ impl<'a> Sides<'a> {
         Sides {
             board,
             memory: ground.memory.clone(),
-            image: ground.image.clone(),
+            images: ground.units.each_ref().map(|unit| unit.image.clone()),
             table: [Record::default(); RECORDS],
             second: ground,
             second_table: [second::record::Record::default(); RECORDS],
@@ -40,8 +42,12 @@ impl<'a> Sides<'a> {
         &self.second_table
     }
 
-    pub fn set_drive(&mut self, drive: second::drive::Drive) {
-        self.second.drive = drive;
+    pub fn set_drive(&mut self, unit: usize, drive: second::drive::Drive) {
+        self.second.units[unit].drive = drive;
+    }
+
+    pub fn set_there(&mut self, unit: usize, there: bool) {
+        self.second.units[unit].there = there;
     }
 
     pub fn set_memory(&mut self, memory: Vec<u8>) {
@@ -49,9 +55,15 @@ impl<'a> Sides<'a> {
         self.second.memory = memory;
     }
 
-    pub fn set_image(&mut self, image: Vec<u8>) {
-        self.image.clone_from(&image);
-        self.second.image = image;
+    pub fn set_image(&mut self, unit: usize, image: Vec<u8>) {
+        self.images[unit].clone_from(&image);
+        self.second.units[unit].image = image;
+    }
+
+    pub fn set_ground(&mut self, ground: second::board::Board) {
+        self.memory.clone_from(&ground.memory);
+        self.images = ground.units.each_ref().map(|unit| unit.image.clone());
+        self.second = ground;
     }
 
     /// Puts bytes in memory, as a host may at any time.
@@ -83,13 +95,13 @@ impl<'a> Sides<'a> {
         }
     }
 
-    /// Where memory, image or table first differ, and what each side has there.
+    /// Where memory, an image or the table first differ, and what each side has there. The images are
+    /// all four, also those of absent units.
     fn first_difference(&self) -> Option<(String, String, String)> {
-        let runs = [
-            ("memory", &self.memory, &self.second.memory),
-            ("the image", &self.image, &self.second.image),
-        ];
-        for (name, mine, its) in runs {
+        let images = self.images.iter().zip(&self.second.units).enumerate();
+        let images = images.map(|(k, (mine, its))| (format!("unit {k}'s image"), mine, &its.image));
+        let memory = ("memory".to_string(), &self.memory, &self.second.memory);
+        for (name, mine, its) in std::iter::once(memory).chain(images) {
             if mine == its {
                 continue;
             }
@@ -109,32 +121,33 @@ impl<'a> Sides<'a> {
     }
 
     fn ask_board(&mut self, call: &Call) -> Reply {
-        let drive = drive_of(&self.second.drive);
-        let (memory, image, board) = (&mut self.memory, &mut self.image, self.board);
+        let drives = &drives_of(&self.second);
+        let (memory, board) = (&mut self.memory, self.board);
+        let images = &mut self.images;
         match call {
-            Call::Walk { start, lent } => {
-                let table = &mut self.table[..*lent];
-                Reply::Walked((board.walk)(memory, image, drive, *start, table))
+            Call::Walk { start, lent: records } => {
+                let table = &mut self.table[..*records];
+                Reply::Walked((board.walk)(memory, &lent(images), drives, *start, table))
             }
             Call::Pick { place, commands, lent } => {
-                let table = &mut self.table[..*lent];
-                Reply::Picked((board.pick)(memory, image, drive, table, *commands, *place))
+                let (images, table) = (&mut lent_mut(images), &mut self.table[..*lent]);
+                Reply::Picked((board.pick)(memory, images, drives, table, *commands, *place))
             }
             Call::Picks { picks, commands, lent } => {
-                let table = &mut self.table[..*lent];
-                Reply::Ran((board.run_picks)(memory, image, drive, table, *commands, picks))
+                let (images, table) = (&mut lent_mut(images), &mut self.table[..*lent]);
+                Reply::Ran((board.run_picks)(memory, images, drives, table, *commands, picks))
             }
             Call::Written { budget, commands, lent } => {
-                let table = &mut self.table[..*lent];
-                Reply::Ran((board.run_written)(memory, image, drive, table, *commands, *budget))
+                let (images, table) = (&mut lent_mut(images), &mut self.table[..*lent]);
+                Reply::Ran((board.run_written)(memory, images, drives, table, *commands, *budget))
             }
-            Call::Look { sector } => {
-                let part = (board.look_part)(image, drive, *sector);
-                let number = (board.look_number)(image, drive, *sector);
+            Call::Look { unit, sector } => {
+                let part = (board.look_part)(&lent(images), drives, *unit, *sector);
+                let number = (board.look_number)(&lent(images), drives, *unit, *sector);
                 Reply::Looked { number, at: part.at, length: part.length }
             }
-            Call::Place { sector } => {
-                let placed = (board.place)(drive, *sector);
+            Call::Place { unit, sector } => {
+                let placed = (board.place)(drive_of(&self.second.units[*unit]), *sector);
                 Reply::Placed { number: placed.number, place: second_place_of(&placed.place) }
             }
             Call::View { at } => Reply::Viewed {
@@ -169,9 +182,10 @@ impl<'a> Sides<'a> {
                 let (steps, number) = (ran.steps, ran.number);
                 Reply::Ran(Ran { steps, refused: 0, number, finished: ran.finished })
             }
-            Call::Look { sector } => self.look_by_second(*sector),
-            Call::Place { sector } => {
-                let (number, place) = second::place::place(&board.drive, u64::from(*sector));
+            Call::Look { unit, sector } => self.look_by_second(*unit, *sector),
+            Call::Place { unit, sector } => {
+                let drive = &board.units[*unit].drive;
+                let (number, place) = second::place::place(drive, u64::from(*sector));
                 Reply::Placed { number, place }
             }
             Call::View { at } => {
@@ -182,11 +196,15 @@ impl<'a> Sides<'a> {
     }
 
     /// The second program hands back the part itself: where it lies is told by its address.
-    fn look_by_second(&self, sector: u32) -> Reply {
-        let number = second::look::look_number(&self.second, u64::from(sector));
-        let part = second::look::look(&self.second, u64::from(sector));
-        let from = self.second.image.as_ptr() as usize;
-        let at = if part.is_empty() { 0 } else { part.as_ptr() as usize - from };
+    fn look_by_second(&self, unit: u8, sector: u32) -> Reply {
+        let (unit, sector) = (u64::from(unit), u64::from(sector));
+        let number = second::look::look_number(&self.second, unit, sector);
+        let part = second::look::look(&self.second, unit, sector);
+        let at = if part.is_empty() {
+            0
+        } else {
+            part.as_ptr() as usize - self.second.units[unit as usize].image.as_ptr() as usize
+        };
         Reply::Looked { number, at, length: part.len() }
     }
 }

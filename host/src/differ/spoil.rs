@@ -1,10 +1,11 @@
-//! Spoils one thing, the table, the number of commands, the protect mark or a size, at both sides of
-//! its line; calls; and mostly puts it back.
+//! Spoils one thing, the table, the number of commands, the protect mark of a unit, whether it is there,
+//! or a size, at both sides of its line; calls; and mostly puts it back.
 
-use crate::differ::acts::{call_on_table, random_sector};
+use crate::differ::acts::{call_on_table, look, random_sector};
 use crate::differ::call::Call;
 use crate::differ::lists::{listed_place, spoil_list};
 use crate::differ::play::{Play, Played};
+use crate::differ::units::{any_unit, some_unit, used_unit};
 use second::board::{IMAGE_LIMIT, SECTOR_BYTES};
 use second::drive::Drive;
 use second::makers::ground::other_drive;
@@ -18,7 +19,8 @@ pub fn spoil_and_call(play: &mut Play) -> Played {
     match (play.rng.below(20), listed) {
         (0 | 1, _) => spoil_commands(play),
         (2 | 3, _) => spoil_protection(play),
-        (4..=12, Some(place)) => spoil_list(play, place),
+        (4 | 5, _) => spoil_presence(play),
+        (6..=12, Some(place)) => spoil_list(play, place),
         _ => spoil_field(play),
     }
 }
@@ -45,14 +47,31 @@ fn spoil_commands(play: &mut Play) -> Played {
     Ok(())
 }
 
-/// The protect mark changes between the walk and the steps.
+/// The protect mark of a unit changes between the walk and the steps.
 fn spoil_protection(play: &mut Play) -> Played {
-    let right = play.sides.ground().drive;
-    play.say(|| format!("the protect mark becomes {}", !right.protected));
-    play.sides.set_drive(Drive { protected: !right.protected, ..right });
+    let unit = used_unit(play);
+    let right = play.sides.ground().units[unit].drive;
+    play.say(|| format!("the protect mark of unit {unit} becomes {}", !right.protected));
+    play.sides.set_drive(unit, Drive { protected: !right.protected, ..right });
     some_calls(play)?;
     if play.rng.percent(80) {
-        play.sides.set_drive(right);
+        play.sides.set_drive(unit, right);
+    }
+    Ok(())
+}
+
+/// A drive is taken away between the walk and the steps, or one comes.
+fn spoil_presence(play: &mut Play) -> Played {
+    let unit = used_unit(play);
+    let right = play.sides.ground().units[unit].there;
+    play.say(|| format!("whether unit {unit} is there becomes {}", !right));
+    play.sides.set_there(unit, !right);
+    some_calls(play)?;
+    if play.rng.percent(30) {
+        look(play)?;
+    }
+    if play.rng.percent(90) {
+        play.sides.set_there(unit, right);
     }
     Ok(())
 }
@@ -62,7 +81,7 @@ fn spoil_field(play: &mut Play) -> Played {
     let records = play.commands.min(32) + usize::from(play.rng.once_in(8));
     let place = play.rng.below(records.max(1) as u64) as usize;
     let right = play.sides.table()[place];
-    let field = play.rng.one_of(&[0, 0, 0, 1, 2, 3, 3, 4, 4, 5, 6, 7, 8, 8]);
+    let field = play.rng.one_of(&[0, 0, 0, 1, 2, 3, 3, 4, 4, 5, 6, 7, 8, 8, 9, 9, 9]);
     let value = wrong_value(play, &right, field);
     let mut wrong = right;
     set_field(&mut wrong, field, value);
@@ -85,7 +104,8 @@ fn spoil_field(play: &mut Play) -> Played {
 /// A value of a field at one of its lines, or just beside.
 fn wrong_value(play: &mut Play, record: &Record, field: u64) -> u64 {
     let memory = play.sides.ground().memory_bytes();
-    let sectors = play.sides.ground().drive.number_of_sectors();
+    let sectors = play.sides.ground().drive_of(record.unit.into()).number_of_sectors();
+    let unit = any_unit(&mut play.rng, play.sides.ground());
     let other = play.rng.below(play.commands.clamp(1, 32) as u64) as usize;
     let other_iopb = u64::from(play.sides.table()[other].iopb);
     let rng = &mut play.rng;
@@ -102,8 +122,10 @@ fn wrong_value(play: &mut Play, record: &Record, field: u64) -> u64 {
         // ranges where there were none, or none where there were some
         7 => rng.one_of(&[0, 1, 2, 32, 33, 0xFFFF]),
         // no number of sectors that would have fitted is wrong, whatever the code
-        _ if rng.percent(50) => rng.byte().into(),
-        _ => rng.one_of(&[0, 1, 128, 254, 255]),
+        8 if rng.percent(50) => rng.byte().into(),
+        8 => rng.one_of(&[0, 1, 128, 254, 255]),
+        _ if rng.percent(10) => rng.byte().into(),
+        _ => unit.into(),
     };
     value.min(FIELD_MOST[field as usize])
 }
@@ -127,30 +149,31 @@ fn wrong_count(rng: &mut Rng, memory: u64, sectors: u64, record: &Record) -> u64
 
 /// Makes drive, image or memory of the wrong size, calls, and mends it.
 pub fn wrong_size_and_call(play: &mut Play) -> Played {
+    let unit = some_unit(&mut play.rng, play.sides.ground());
     match play.rng.below(8) {
         0..=4 => {
-            let right = play.sides.ground().drive;
+            let right = play.sides.ground().units[unit].drive;
             let wrong = wrong_drive(play, right);
-            play.say(|| format!("the drive becomes {wrong:?}"));
-            play.sides.set_drive(wrong);
-            calls_on_sizes(play)?;
-            play.sides.set_drive(right);
+            play.say(|| format!("the drive of unit {unit} becomes {wrong:?}"));
+            play.sides.set_drive(unit, wrong);
+            calls_on_sizes(play, unit)?;
+            play.sides.set_drive(unit, right);
         }
         5 | 6 => {
-            let right = play.sides.ground().image.clone();
+            let right = play.sides.ground().units[unit].image.clone();
             let mut image = right.clone();
-            image.resize(wrong_image_length(play), 0x5A);
-            play.say(|| format!("the image has {} bytes", image.len()));
-            play.sides.set_image(image);
-            calls_on_sizes(play)?;
-            play.sides.set_image(right);
+            image.resize(wrong_image_length(play, unit), 0x5A);
+            play.say(|| format!("the image of unit {unit} has {} bytes", image.len()));
+            play.sides.set_image(unit, image);
+            calls_on_sizes(play, unit)?;
+            play.sides.set_image(unit, right);
         }
         _ => {
             let mut memory = play.sides.ground().memory.clone();
             memory.resize(play.rng.one_of(&[65_536, 65_537, 66_560]), 0xA5);
             play.say(|| format!("memory has {} bytes", memory.len()));
             play.sides.set_memory(memory);
-            calls_on_sizes(play)?;
+            calls_on_sizes(play, unit)?;
         }
     }
     Ok(())
@@ -168,9 +191,10 @@ fn wrong_drive(play: &mut Play, right: Drive) -> Drive {
 }
 
 /// A length beside the right one, or that of a drive with equal heads.
-fn wrong_image_length(play: &mut Play) -> usize {
-    let full = play.sides.ground().image.len();
-    let equal = SECTOR_BYTES * play.sides.ground().drive.as_if_equal().number_of_sectors();
+fn wrong_image_length(play: &mut Play, unit: usize) -> usize {
+    let unit = &play.sides.ground().units[unit];
+    let full = unit.image.len();
+    let equal = SECTOR_BYTES * unit.drive.as_if_equal().number_of_sectors();
     // with equal heads a large drive would ask for more than is worth laying
     let equal = equal.min(IMAGE_LIMIT + SECTOR_BYTES) as usize;
     let wrong = [
@@ -186,18 +210,19 @@ fn wrong_image_length(play: &mut Play) -> usize {
     play.rng.one_of(&wrong)
 }
 
-/// Calls that meet a wrong size; one that looks meets only the image's and the drive's, one that asks
-/// for a place only the drive's.
-fn calls_on_sizes(play: &mut Play) -> Played {
+/// Calls that meet a wrong size; one that looks, at any unit, meets only an image's and a drive's, one
+/// that asks for a place only the drive's.
+fn calls_on_sizes(play: &mut Play, unit: usize) -> Played {
     for _ in 0..play.rng.between(1, 3) {
         match play.rng.below(8) {
             0 | 1 => {
+                let unit = any_unit(&mut play.rng, play.sides.ground());
                 let sector = play.rng.below(40) as u32;
-                play.call(Call::Look { sector })?;
+                play.call(Call::Look { unit, sector })?;
             }
             2 => {
-                let sector = random_sector(play);
-                play.call(Call::Place { sector })?;
+                let sector = random_sector(play, unit);
+                play.call(Call::Place { unit, sector })?;
             }
             _ => call_on_table(play)?,
         }

@@ -17,14 +17,14 @@ pub const ROWS: [&str; 5] = [LARGEST, PLACE_31, PLACE_10, SIZE_1, RECORD_16];
 
 /// The rows of a call on this ground; after a walk its commands are at the front of the table.
 pub fn rows(call: &Call, reply: &Reply, ground: &Board, table: &[Record]) -> Vec<&'static str> {
-    let sectors = ground.drive.number_of_sectors();
+    let sectors = |unit: usize| ground.units[unit].drive.number_of_sectors();
     let mut rows = Vec::new();
-    if sectors == 1 << 32 {
+    if ground.present().any(|unit| unit.drive.number_of_sectors() == 1 << 32) {
         rows.push(LARGEST);
     }
     match (call, reply, reply.number()) {
-        (Call::Place { sector }, _, 0) if *sector >= 1 << 31 => rows.push(PLACE_31),
-        (Call::Place { sector }, _, 10) if u64::from(sector % (1 << 16)) < sectors => {
+        (Call::Place { sector, .. }, _, 0) if *sector >= 1 << 31 => rows.push(PLACE_31),
+        (Call::Place { unit, sector }, _, 10) if u64::from(sector % (1 << 16)) < sectors(*unit) => {
             rows.push(PLACE_10);
         }
         (_, Reply::Walked(walked), 0) => {
@@ -32,8 +32,9 @@ pub fn rows(call: &Call, reply: &Reply, ground: &Board, table: &[Record]) -> Vec
             rows.extend(wide.map(|_| RECORD_16));
         }
         (_, _, 1) => {
-            let others_right = call.others_right(ground).unwrap_or(false);
-            if !refused_one_rows(ground, call.word(), others_right).is_empty() {
+            let alone = call.unit_alone_wrong(ground);
+            let found = alone.map(|(_, unit)| refused_one_rows(unit, call.word(), true));
+            if found.is_some_and(|found| !found.is_empty()) {
                 rows.push(SIZE_1);
             }
         }

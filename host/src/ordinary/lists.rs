@@ -49,7 +49,8 @@ pub struct Weighed {
 
 /// The loop has no branch, so that the compiler looks at several ranges at a time.
 pub fn weigh(links: &[Link]) -> Weighed {
-    let (mut hull, mut bytes, mut bits) = (u32::MAX..0, 0, 0);
+    let mut hull = Range { start: u32::MAX, end: 0 };
+    let (mut bytes, mut bits) = (0, 0);
     for link in links {
         let range = range_of(link);
         hull.start = hull.start.min(range.start);

@@ -1,10 +1,10 @@
-//! What the measured work is done on: a drive of 4,096 sectors, a chain of 32 transfers, reads and
-//! writes in turn, and tables that are walked and ready to run.
+//! What the measured work is done on: drives of 4,096 sectors, one or four of them, a chain of 32
+//! transfers, reads and writes in turn, and tables that are walked and ready to run.
 
 use crate::archive;
-use crate::declared::{Drive, Link, Record};
-use crate::translate::{second_drive_of, second_record_of};
-use second::board::Board;
+use crate::declared::{Drive, LentDrives, Link, Record, UNITS};
+use crate::translate::{lent, second_drive_of, second_record_of};
+use second::board::{Board, Unit};
 use second::makers::block::Block;
 
 /// The commands of the chain: as many as a table holds.
@@ -18,15 +18,17 @@ const IOPBS: usize = 32 * COMMANDS;
 const ELEMENT: usize = 8;
 /// 16 cylinders of 16 heads, all of 16 sectors: 2 MiB.
 const DRIVE: Drive =
-    Drive { cylinder: 15, head: 15, sector: 15, last_sector: 15, protected: false };
+    Drive { cylinder: 15, head: 15, sector: 15, last_sector: 15, protected: false, present: true };
 
 pub type Table = [Record; COMMANDS];
 
-/// What the commands of a chain are like: how many sectors each moves, and where its data lies.
+/// What the commands of a chain are like: how many sectors each moves, where its data lies, and how
+/// many units they go over, the others being absent.
 #[derive(Clone, Copy)]
 pub struct Shape {
     pub count: usize,
     pub data: Data,
+    pub units: usize,
 }
 
 #[derive(Clone, Copy)]
@@ -43,7 +45,24 @@ pub enum Data {
 
 impl Shape {
     pub fn plain(count: usize) -> Shape {
-        Shape { count, data: Data::Plain }
+        Shape::of(count, Data::Plain)
+    }
+
+    /// On unit 0 alone.
+    pub fn of(count: usize, data: Data) -> Shape {
+        Shape { count, data, units: 1 }
+    }
+
+    /// In one piece, over all units in turn: those that follow each other on different units name the
+    /// same sectors.
+    pub fn over_units(count: usize) -> Shape {
+        Shape { units: UNITS, ..Shape::plain(count) }
+    }
+
+    fn drives(self) -> LentDrives {
+        let mut drives = LentDrives::default();
+        drives.units[..self.units].fill(DRIVE);
+        drives
     }
 
     /// How many ranges a command has: 0 without a list.
@@ -98,8 +117,8 @@ fn element(link: &Link) -> [u8; ELEMENT] {
 
 pub struct Ground {
     pub memory: Vec<u8>,
-    pub image: Vec<u8>,
-    pub drive: Drive,
+    pub images: [Vec<u8>; UNITS],
+    pub drives: LentDrives,
     /// The table as the walk leaves it.
     pub walked: Table,
     /// Where a plain copy of each command's data begins.
@@ -114,9 +133,10 @@ pub struct Ground {
 
 /// The IOPB of a command: it moves `count` sectors of its own.
 fn block(shape: Shape, place: usize) -> Block {
-    let sector = (place * shape.count) as u64;
-    let command = if place % 2 == 0 { 2 } else { 1 };
-    let block = Block::new(command).unit(0).count(shape.count as u64).at(
+    let (turn, unit) = (place / shape.units, place % shape.units);
+    let sector = (turn * shape.count) as u64;
+    let command = if (turn + unit) % 2 == 0 { 2 } else { 1 };
+    let block = Block::new(command).unit(unit as u8).count(shape.count as u64).at(
         sector / 256,
         sector / 16 % 16,
         sector % 16,
@@ -143,23 +163,37 @@ fn chain(shape: Shape) -> Vec<u8> {
     memory
 }
 
+/// The image of a drive; an absent one has none.
+fn image_of(drive: Drive) -> Vec<u8> {
+    let bytes = if drive.present { 4_096 * SECTOR } else { 0 };
+    (0..bytes).map(|at| (at / SECTOR + at * 3) as u8).collect()
+}
+
+fn second_board(memory: &[u8], images: &[Vec<u8>; UNITS], drives: &LentDrives) -> Board {
+    let units = std::array::from_fn(|k| Unit {
+        there: drives.units[k].present,
+        drive: second_drive_of(&drives.units[k]),
+        image: images[k].clone(),
+    });
+    Board { memory: memory.to_vec(), units }
+}
+
 impl Ground {
     /// The ground for commands of this shape.
     pub fn new(shape: Shape) -> Ground {
-        let memory = chain(shape);
-        let image: Vec<u8> = (0..4_096 * SECTOR).map(|at| (at / SECTOR + at * 3) as u8).collect();
+        let (memory, drives) = (chain(shape), shape.drives());
+        let images: [Vec<u8>; UNITS] = drives.units.map(image_of);
         let mut walked = [Record::default(); COMMANDS];
-        let reply = archive::walk(&memory, &image, DRIVE, 0, &mut walked);
+        let reply = archive::walk(&memory, &lent(&images), &drives, 0, &mut walked);
         assert_eq!((reply.number, reply.commands), (0, COMMANDS), "the chain is accepted");
         assert!(walked.iter().all(|record| record.code == 0), "every command is a transfer");
         let ranges = walked.iter().map(|record| record.ranges as usize);
         assert!(ranges.clone().all(|ranges| ranges == shape.ranges()), "every list was read");
-        let drive = second_drive_of(&DRIVE);
-        let second = Board { memory: memory.clone(), image: image.clone(), drive };
+        let second = second_board(&memory, &images, &drives);
         let mut ground = Ground {
             memory,
-            image,
-            drive: DRIVE,
+            images,
+            drives,
             walked,
             areas: std::array::from_fn(|place| shape.area(place)),
             tables: vec![walked; TABLES],

@@ -163,7 +163,7 @@ pub fn page(rows: &[Row], counted: &[Counted]) -> String {
          {table}\n\
          - Times are for one unit of the work: a run, a pick, a walk; 1,000 ns are 1 us, a millionth of a second. They \
          are the fastest of many batches in a round, and the median of {ROUNDS} rounds; the sides take turns on the same \
-         memory and image, which are new in each round. A ratio is the median of the rounds' own ratios. In every row with \
+         memory and images, which are new in each round. A ratio is the median of the rounds' own ratios. In every row with \
          a goal the middle half of them lies within {:.1} %.\n\
          - The firmware is target/native/libfirmware.a, called from Rust. On Arm it is the toolchain's own LLVM module, \
          compiled for Arm (tools/archive).\n\
@@ -177,6 +177,9 @@ pub fn page(rows: &[Row], counted: &[Counted]) -> String {
          first; the copy moves the whole area at once. At 8 sectors in 4 ranges they have 1,024 bytes each, at 1 sector in \
          32 ranges 16 bytes. In the row with each list's ranges between the others', no two commands share a byte, but \
          only their ranges tell it, pair by pair; that row has no goal.\n\
+         - There is one drive, unit 0, and units 1 to 3 are absent, but in the two rows over four drives: there the \
+         commands take the units in turn, and four that follow each other name the same sector of four drives. These two \
+         rows have no goal of their own.\n\
          - \"Ordinary Rust\" is host/src/ordinary.rs: the same replies with no proofs, written for speed as far as it \
          stays easy to read; it says what faster form was left out. The second program is second/, which is plain and \
          slow on purpose.\n\

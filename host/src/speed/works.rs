@@ -4,6 +4,7 @@
 use crate::declared::Record;
 use crate::speed::clock::Side;
 use crate::speed::ground::{Data, Ground, Shape, COMMANDS, SECTOR, TABLES};
+use crate::translate::{lent, lent_mut};
 use crate::{archive, ordinary};
 use std::hint::black_box;
 
@@ -34,7 +35,8 @@ fn copy(memory: &mut [u8], image: &mut [u8], record: &Record, area: usize, at_on
 fn copy_commands(ground: &mut Ground) {
     for table in &ground.tables {
         for (record, area) in black_box(table).iter().zip(&ground.areas) {
-            copy(&mut ground.memory, &mut ground.image, record, *area, usize::from(record.count));
+            let image = &mut ground.images[usize::from(record.unit)];
+            copy(&mut ground.memory, image, record, *area, usize::from(record.count));
         }
     }
 }
@@ -44,7 +46,8 @@ fn copy_commands(ground: &mut Ground) {
 fn copy_sectors(ground: &mut Ground) {
     for table in &ground.tables {
         for (record, area) in black_box(table).iter().zip(&ground.areas) {
-            copy(&mut ground.memory, &mut ground.image, record, *area, 1);
+            let image = &mut ground.images[usize::from(record.unit)];
+            copy(&mut ground.memory, image, record, *area, 1);
         }
     }
 }
@@ -57,65 +60,66 @@ fn last_to_first() -> [u8; COMMANDS] {
 macro_rules! board_works {
     ($board:ident) => {
         pub fn run_written(g: &mut Ground) {
+            let (memory, images) = (&mut g.memory, &mut lent_mut(&mut g.images));
             for table in &mut g.tables {
                 let table = black_box(table);
-                let (memory, image) = (&mut g.memory, &mut g.image);
-                let ran = $board::run_written(memory, image, g.drive, table, COMMANDS, u64::MAX);
+                let ran = $board::run_written(memory, images, &g.drives, table, COMMANDS, u64::MAX);
                 assert!(ran.finished);
             }
         }
 
         pub fn picks_last_first(g: &mut Ground) {
+            let (memory, images) = (&mut g.memory, &mut lent_mut(&mut g.images));
             for table in &mut g.tables {
                 let table = black_box(table);
                 for place in (0..COMMANDS).rev() {
-                    let (memory, image) = (&mut g.memory, &mut g.image);
-                    assert_eq!($board::pick(memory, image, g.drive, table, COMMANDS, place), 0);
+                    assert_eq!($board::pick(memory, images, &g.drives, table, COMMANDS, place), 0);
                 }
             }
         }
 
         pub fn picks_first_last(g: &mut Ground) {
+            let (memory, images) = (&mut g.memory, &mut lent_mut(&mut g.images));
             for table in &mut g.tables {
                 let table = black_box(table);
                 for place in 0..COMMANDS {
-                    let (memory, image) = (&mut g.memory, &mut g.image);
-                    assert_eq!($board::pick(memory, image, g.drive, table, COMMANDS, place), 0);
+                    assert_eq!($board::pick(memory, images, &g.drives, table, COMMANDS, place), 0);
                 }
             }
         }
 
         pub fn pick_last(g: &mut Ground) {
+            let (memory, images) = (&mut g.memory, &mut lent_mut(&mut g.images));
             for table in &mut g.tables {
                 let table = black_box(table);
-                let (memory, image) = (&mut g.memory, &mut g.image);
-                let number = $board::pick(memory, image, g.drive, table, COMMANDS, COMMANDS - 1);
+                let number = $board::pick(memory, images, &g.drives, table, COMMANDS, COMMANDS - 1);
                 assert_eq!(number, 0);
             }
         }
 
         pub fn run_by_picks(g: &mut Ground) {
             let picks = last_to_first();
+            let (memory, images) = (&mut g.memory, &mut lent_mut(&mut g.images));
             for table in &mut g.tables {
                 let table = black_box(table);
-                let (memory, image) = (&mut g.memory, &mut g.image);
-                let ran = $board::run_picks(memory, image, g.drive, table, COMMANDS, &picks);
+                let ran = $board::run_picks(memory, images, &g.drives, table, COMMANDS, &picks);
                 assert!(ran.finished);
             }
         }
 
         pub fn run_in_turn(g: &mut Ground) {
+            let (memory, images) = (&mut g.memory, &mut lent_mut(&mut g.images));
             for table in &mut g.tables {
                 let (table, picks) = (black_box(table), &g.in_turn);
-                let (memory, image) = (&mut g.memory, &mut g.image);
-                let ran = $board::run_picks(memory, image, g.drive, table, COMMANDS, picks);
+                let ran = $board::run_picks(memory, images, &g.drives, table, COMMANDS, picks);
                 assert!(ran.finished && ran.refused == 0);
             }
         }
 
         pub fn walk(g: &mut Ground) {
+            let images = &lent(&g.images);
             for table in &mut g.tables {
-                let walked = $board::walk(black_box(&g.memory), &g.image, g.drive, 0, table);
+                let walked = $board::walk(black_box(&g.memory), images, &g.drives, 0, table);
                 assert_eq!(walked.commands, COMMANDS);
             }
         }
@@ -246,9 +250,11 @@ fn runs_as_written() -> Vec<Work> {
             work(&name, Shape::plain(count), WHOLE, boards, TABLES, Some((against, goal)))
         })
         .into();
-    let listed = Shape { count: 8, data: Data::Apart(4) };
+    let listed = Shape::of(8, Data::Apart(4));
     let name = "run as written, 32 commands of 8, each a list of 4 ranges";
     works.push(work(name, listed, IN_ONE_PIECE, boards, TABLES, Some((Against::Copy, 1.50))));
+    let name = "run as written, 32 commands of 1, over four drives";
+    works.push(work(name, Shape::over_units(1), WHOLE, boards, TABLES, None));
     works
 }
 
@@ -259,9 +265,11 @@ fn runs_by_picks() -> Vec<Work> {
         (firmware::run_by_picks, plain::run_by_picks, Some(slow::run_by_picks));
     let turns = "run by picks, 32 commands of 128, places in turn";
     let back = "run by picks, 32 commands of 1, last to first";
+    let over = "run by picks, 32 commands of 1, last to first, over four drives";
     vec![
         work(turns, Shape::plain(128), WHOLE, in_turn, TABLES, Some((Against::Copy, 1.15))),
         work(back, Shape::plain(1), WHOLE, reversed, TABLES, Some((Against::Ordinary, 1.10))),
+        work(over, Shape::over_units(1), WHOLE, reversed, TABLES, None),
     ]
 }
 
@@ -296,8 +304,7 @@ fn picks_of_lists() -> Vec<Work> {
     let boards: (Batch, Batch, Option<Batch>) =
         (firmware::picks_last_first, plain::picks_last_first, Some(slow::picks_last_first));
     let one = |name: &str, data, goal| {
-        let shape = Shape { count: 1, data };
-        work(name, shape, ONE_SECTOR, boards, TABLES * COMMANDS, goal)
+        work(name, Shape::of(1, data), ONE_SECTOR, boards, TABLES * COMMANDS, goal)
     };
     let goal = Some((Against::Ordinary, 1.50));
     vec![

@@ -6,8 +6,15 @@ use super::{inside, one_line, Declared};
 /// C++ keeps the word `protected` for itself, so the header has another for that one field.
 const OTHER_WORDS: [(&str, &str); 1] = [("write_protected", "protected")];
 
-/// In C a struct and a function cannot both be `rosadenca_place`, so the struct has another name.
-const OTHER_STRUCTS: [(&str, &str); 1] = [("rosadenca_disk_place", "Place")];
+/// In C a struct and a function cannot both be `rosadenca_place`, so the struct has another name; and
+/// what is lent in all has the name that the drives have in the source.
+const OTHER_STRUCTS: [(&str, &str); 2] =
+    [("rosadenca_disk_place", "Place"), ("rosadenca_drives", "LentDrives")];
+
+/// What stands in the header for its short forms alone, which the archive does not have: a struct, and
+/// functions with bodies.
+const SHORT_STRUCT: &str = "typedef struct rosadenca_lent {";
+const SHORT_FUNCTION: &str = "static inline ";
 
 /// What the header has a C compiler test; it declares nothing.
 const TESTS: [&str; 2] = ["ROSADENCA_HOLDS(", "ROSADENCA_AT("];
@@ -45,6 +52,8 @@ fn without_the_rest(file: &str) -> String {
         rest = after.split_once("*/").expect("a comment ends").1;
     }
     text.push_str(rest);
+    // a line that goes on is one line
+    let text = text.replace("\\\n", " ");
     let is_test = |line: &str| TESTS.iter().any(|test| line.starts_with(test));
     let kept = text.lines().filter(|line| !line.trim_start().starts_with('#') && !is_test(line));
     let mut text = kept.collect::<Vec<_>>().join("\n");
@@ -52,6 +61,18 @@ fn without_the_rest(file: &str) -> String {
         let end = at + text[at..].find(';').expect("an enum ends") + 1;
         text.replace_range(at..end, "");
     }
+    without_short_forms(text)
+}
+
+fn without_short_forms(mut text: String) -> String {
+    while let Some(at) = text.find(SHORT_FUNCTION) {
+        let open = at + text[at..].find('{').expect("a short form has a body");
+        let end = open + inside(&text[open..], '{', '}').len() + 2;
+        text.replace_range(at..end, "");
+    }
+    let at = text.find(SHORT_STRUCT).expect("the header has short forms");
+    let end = at + text[at..].find("} rosadenca_lent;").expect("the struct ends");
+    text.replace_range(at..end + "} rosadenca_lent;".len(), "");
     text
 }
 

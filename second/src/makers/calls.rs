@@ -107,7 +107,7 @@ pub fn call_on_table(rng: &mut Rng, script: &mut Script) {
 /// Looks at sectors, fields and views, at edges and where the chain lies.
 pub fn look_around(rng: &mut Rng, script: &mut Script, chain: &Chain) {
     let sector = random_sector(rng, script);
-    script.say(Line::Look(sector));
+    script.say(Line::Look { unit: script.state.chosen as u64, sector });
     if rng.percent(30) {
         // The place of the sector just looked at, as often as not.
         let other = random_sector(rng, script);
@@ -133,7 +133,7 @@ pub fn ask_places(rng: &mut Rng, script: &mut Script) {
 /// A sector's number: mostly one of the drive's, often at the end of a head,
 /// now and then past the last.
 fn random_sector(rng: &mut Rng, script: &Script) -> u64 {
-    let drive = &script.state.board.drive;
+    let drive = script.state.drive();
     let sectors = drive.number_of_sectors();
     let number = match rng.below(20) {
         0 | 1 => sectors,
@@ -184,7 +184,7 @@ fn lent_calls(rng: &mut Rng, script: &mut Script, chain: &Chain) {
 
 /// Makes drive, image or memory of the wrong size, calls, and mends it.
 fn wrong_size_and_call(rng: &mut Rng, script: &mut Script) {
-    let right = script.state.board.drive;
+    let right = *script.state.drive();
     match rng.below(8) {
         0..=4 => {
             script.say(Line::Drive(other_drive(rng, right)));
@@ -207,8 +207,8 @@ fn wrong_size_and_call(rng: &mut Rng, script: &mut Script) {
 
 /// An image's length beside the right one, or that of equal heads.
 fn wrong_image_length(rng: &mut Rng, script: &Script) -> u64 {
-    let right = script.state.board.image.len() as u64;
-    let equal = SECTOR_BYTES * script.state.board.drive.as_if_equal().number_of_sectors();
+    let right = script.state.unit().image.len() as u64;
+    let equal = SECTOR_BYTES * script.state.drive().as_if_equal().number_of_sectors();
     let beside = [right - 1, right + 1, right - SECTOR_BYTES, right + SECTOR_BYTES];
     match rng.below(8) {
         0 => 0,
@@ -224,7 +224,8 @@ pub fn calls_on_sizes(rng: &mut Rng, script: &mut Script) {
     for _ in 0..rng.between(1, 3) {
         match rng.below(8) {
             0 | 1 => {
-                script.say(Line::Look(rng.below(40)));
+                let unit = script.state.chosen as u64;
+                script.say(Line::Look { unit, sector: rng.below(40) });
             }
             2 => {
                 script.say(Line::Place(rng.below(60)));

@@ -1,7 +1,9 @@
-//! Random cases: a board, a chain or a table made by hand, then calls.
+//! Random cases: a board, a chain or a table made by hand, then calls; about one
+//! in eight is about several drives.
 //! The seed and the case's number decide everything.
 
 use crate::board::SECTOR_BYTES;
+use crate::drive::Drive;
 use crate::makers::calls::{act, ask_places, call_on_table, look_around, random_address, walk};
 use crate::makers::chain::{random_chain, Chain};
 use crate::makers::fitted_cases::fitted_case;
@@ -10,6 +12,7 @@ use crate::makers::random_lists::cut;
 use crate::makers::rng::Rng;
 use crate::makers::script::Script;
 use crate::makers::spoil::FITTED_TO_TRY;
+use crate::makers::unit_cases::unit_case;
 use crate::makers::wide_cases::wide_case;
 use crate::makers::ALL_32_BITS;
 use crate::range::Range;
@@ -22,7 +25,8 @@ pub fn random_case(seed: u64, n: u64) -> Script {
     let mut script = Script::default();
     script.say(Line::Case(n));
     match rng.below(100) {
-        0..=77 => chain_case(&mut rng, &mut script),
+        0..=64 => chain_case(&mut rng, &mut script),
+        65..=77 => unit_case(&mut rng, &mut script),
         78..=82 => fitted_case(&mut rng, &mut script),
         83..=85 => wide_case(&mut rng, &mut script),
         86..=91 => table_case(&mut rng, &mut script),
@@ -36,7 +40,7 @@ pub fn random_case(seed: u64, n: u64) -> Script {
 /// The usual case: a chain, a walk, steps in many ways, and looks.
 fn chain_case(rng: &mut Rng, script: &mut Script) {
     ground(rng, script);
-    let chain = random_chain(rng, &script.state.board);
+    let chain = random_chain(rng, script.state.board.memory_bytes(), script.state.drive());
     lay(rng, script, &chain);
     if rng.percent(12) {
         false_start(rng, script);
@@ -66,7 +70,7 @@ pub fn lay(rng: &mut Rng, script: &mut Script, chain: &Chain) {
             script.say(Line::Put { address: rng.between(0, memory - 4), bytes: rng.bytes(4) });
         }
     }
-    let image = script.state.board.image.len() as u64;
+    let image = script.state.unit().image.len() as u64;
     for _ in 0..rng.below(3) {
         if image >= 3 {
             script.say(Line::Disk { offset: rng.between(0, image - 3), bytes: rng.bytes(3) });
@@ -99,7 +103,7 @@ fn table_case(rng: &mut Rng, script: &mut Script) {
     ground(rng, script);
     let records = if rng.once_in(8) { rng.between(7, 32) } else { rng.between(1, 6) };
     for place in 0..records {
-        let record = random_record(rng, script);
+        let record = random_record(rng, script.state.board.memory_bytes(), script.state.drive());
         script.record(place, record);
     }
     script.say(Line::Commands(records));
@@ -112,14 +116,13 @@ fn table_case(rng: &mut Rng, script: &mut Script) {
 
 /// A record that is mostly sound. IOPBs lie close to each other, so that
 /// status bytes meet, which no walk would allow.
-fn random_record(rng: &mut Rng, script: &Script) -> Record {
-    let memory = script.state.board.memory_bytes();
-    let sectors = script.state.board.drive.number_of_sectors();
+pub fn random_record(rng: &mut Rng, memory: u64, drive: &Drive) -> Record {
+    let sectors = drive.number_of_sectors();
     let most = sectors.min(memory / SECTOR_BYTES).clamp(1, 4);
     let count = rng.between(1, most);
     let last_place = memory.saturating_sub(30);
     let command = rng.one_of(&[0, 1, 1, 2, 2, 2, 7]);
-    let protected_write = command == 1 && script.state.board.drive.protected;
+    let protected_write = command == 1 && drive.protected;
     let mut record = Record {
         iopb: rng.one_of(&[0, 2, 3, 4, 30, last_place]).min(last_place) as u32,
         data: rng.between(0, memory.saturating_sub(count * SECTOR_BYTES)) as u32,
@@ -193,7 +196,7 @@ fn place_case(rng: &mut Rng, script: &mut Script) {
 /// Sizes at and past the limits.
 fn sizes_case(rng: &mut Rng, script: &mut Script) {
     limit_ground(rng, script);
-    let chain = random_chain(rng, &script.state.board);
+    let chain = random_chain(rng, script.state.board.memory_bytes(), script.state.drive());
     lay(rng, script, &chain);
     walk(rng, script, chain.start);
     call_on_table(rng, script);

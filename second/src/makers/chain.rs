@@ -1,7 +1,7 @@
 //! Random chains: where the IOPBs and their link lists lie, what each command
 //! asks, how they are linked.
 
-use crate::board::{Board, SECTOR_BYTES};
+use crate::board::SECTOR_BYTES;
 use crate::drive::Drive;
 use crate::iopb::IOPB_BYTES;
 use crate::link_list::ELEMENT_BYTES;
@@ -22,29 +22,29 @@ pub struct Chain {
     pub blocks: Vec<(u64, Block)>,
 }
 
-/// A random chain for a board. In a memory too small for an IOPB there is
-/// none, and the start is anywhere.
-pub fn random_chain(rng: &mut Rng, board: &Board) -> Chain {
+/// A random chain for so many bytes of memory and one drive. In a memory too
+/// small for an IOPB there is none, and the start is anywhere.
+pub fn random_chain(rng: &mut Rng, memory: u64, drive: &Drive) -> Chain {
     let number = chain_length(rng);
-    let addresses = places(rng, board.memory_bytes(), number);
+    let addresses = places(rng, memory, number);
     if addresses.is_empty() {
         return Chain { start: rng.below(8), ..Chain::default() };
     }
     // About half of the chains have commands with lists.
     let lists = if rng.percent(52) { rng.one_of(&[25, 50, 90]) } else { 0 };
-    let (mut blocks, transfers) = commands(rng, board, &addresses, lists);
-    link(rng, board, &addresses, &mut blocks);
+    let (mut blocks, transfers) = commands(rng, memory, drive, &addresses, lists);
+    link(rng, memory, &addresses, &mut blocks);
     Chain {
         start: addresses[0],
-        lists: transfers.iter().filter_map(|transfer| list_bytes(board, transfer)).collect(),
+        lists: transfers.iter().filter_map(|transfer| list_bytes(memory, transfer)).collect(),
         blocks: addresses.into_iter().zip(blocks).collect(),
     }
 }
 
 /// The bytes of a transfer's list that are in memory, and where they begin.
-fn list_bytes(board: &Board, transfer: &Transfer) -> Option<(u64, Vec<u8>)> {
+fn list_bytes(memory: u64, transfer: &Transfer) -> Option<(u64, Vec<u8>)> {
     let at = transfer.list?;
-    let inside = board.memory_bytes().saturating_sub(at) as usize;
+    let inside = memory.saturating_sub(at) as usize;
     let bytes: Vec<u8> = transfer.ranges.iter().flat_map(element_bytes).take(inside).collect();
     if bytes.is_empty() {
         None
@@ -95,7 +95,8 @@ fn places(rng: &mut Rng, memory: u64, wanted: u64) -> Vec<u64> {
 /// in a hundred have a link list.
 pub fn commands(
     rng: &mut Rng,
-    board: &Board,
+    memory: u64,
+    drive: &Drive,
     addresses: &[u64],
     lists: u64,
 ) -> (Vec<Block>, Vec<Transfer>) {
@@ -105,9 +106,9 @@ pub fn commands(
     // commands well apart, some all in a heap.
     let faults = rng.one_of(&[0, 5, 15, 15, 60]);
     let lay = Lay {
-        memory: board.memory_bytes(),
-        sectors: board.drive.number_of_sectors(),
-        drive: &board.drive,
+        memory,
+        sectors: drive.number_of_sectors(),
+        drive,
         addresses,
         near: rng.one_of(&[0, 25, 60, 90]),
         lists,
@@ -118,10 +119,10 @@ pub fn commands(
             list_fault(rng, lay.memory, &mut transfer);
         }
         let command = rng.one_of(&[0, 1, 1, 1, 1, 2, 2, 2, 2]);
-        let mut block = block_for(rng, board, command, &transfer);
+        let mut block = block_for(rng, drive, command, &transfer);
         if rng.percent(faults) {
             for _ in 0..rng.between(1, 3) {
-                block = fault(rng, board, block, &transfer);
+                block = fault(rng, &lay, block, &transfer);
             }
         }
         blocks.push(block);
@@ -130,8 +131,8 @@ pub fn commands(
     (blocks, earlier)
 }
 
-fn block_for(rng: &mut Rng, board: &Board, command: u8, transfer: &Transfer) -> Block {
-    let place = counted_to(&board.drive, transfer.sector);
+fn block_for(rng: &mut Rng, drive: &Drive, command: u8, transfer: &Transfer) -> Block {
+    let place = counted_to(drive, transfer.sector);
     let Place { cylinder, head, sector } = place.expect("every transfer begins on the drive");
     // With CHEN clear the next address is not looked at: it may be anything.
     let next = rng.next() % (1 << 32);
@@ -181,8 +182,8 @@ fn lists_of(transfers: &[Transfer]) -> Vec<Range> {
 }
 
 /// Spoils one field, mostly just past its line.
-fn fault(rng: &mut Rng, board: &Board, block: Block, transfer: &Transfer) -> Block {
-    let drive = &board.drive;
+fn fault(rng: &mut Rng, lay: &Lay, block: Block, transfer: &Transfer) -> Block {
+    let drive = lay.drive;
     let (cylinder, head, sector) =
         (number_in(&block, 0x0A, 2), number_in(&block, 0x0C, 1), number_in(&block, 0x0D, 1));
     let past_cylinder = u64::from(drive.max_cylinder) + 1;
@@ -207,7 +208,7 @@ fn fault(rng: &mut Rng, board: &Board, block: Block, transfer: &Transfer) -> Blo
             let (head, sector) = past_one_maximum(rng, drive);
             block.at(cylinder, head, sector)
         }
-        _ => block.data(data_past_memory(rng, board.memory_bytes(), transfer.count)),
+        _ => block.data(data_past_memory(rng, lay.memory, transfer.count)),
     }
 }
 
@@ -225,7 +226,7 @@ fn past_one_maximum(rng: &mut Rng, drive: &Drive) -> (u64, u64) {
 }
 
 /// The number that stands in so many bytes of a block.
-fn number_in(block: &Block, from: usize, bytes: usize) -> u64 {
+pub fn number_in(block: &Block, from: usize, bytes: usize) -> u64 {
     block.bytes[from..from + bytes].iter().fold(0, |sum, byte| sum * 256 + u64::from(*byte))
 }
 
@@ -243,7 +244,7 @@ fn data_past_memory(rng: &mut Rng, memory: u64, count: u64) -> u64 {
 }
 
 /// Links the commands one after the other, and ends the chain somehow.
-fn link(rng: &mut Rng, board: &Board, addresses: &[u64], blocks: &mut [Block]) {
+fn link(rng: &mut Rng, memory: u64, addresses: &[u64], blocks: &mut [Block]) {
     let last = blocks.len() - 1;
     for k in 0..last {
         blocks[k] = blocks[k].next(addresses[k + 1]);
@@ -254,7 +255,7 @@ fn link(rng: &mut Rng, board: &Board, addresses: &[u64], blocks: &mut [Block]) {
     }
     let sound = if blocks.len() == 32 { 50 } else { 76 };
     if !rng.percent(sound) {
-        blocks[last] = blocks[last].next(odd_end(rng, board.memory_bytes(), addresses));
+        blocks[last] = blocks[last].next(odd_end(rng, memory, addresses));
     }
 }
 

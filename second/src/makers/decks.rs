@@ -1,7 +1,7 @@
 //! Random decks for the bench: many sound, and each common mistake too.
 //! The same decks are written as files and as cases.
 
-use crate::bench::{bench_board, BENCH_MEMORY, DECK_RECORD};
+use crate::bench::{bench_drive, BENCH_MEMORY, DECK_RECORD};
 use crate::board::SECTOR_BYTES;
 use crate::iopb::IOPB_BYTES;
 use crate::makers::block::Block;
@@ -91,7 +91,8 @@ fn give_list(rng: &mut Rng, blocks: &mut Vec<Block>) {
 
 fn sound_records(rng: &mut Rng, records: u64, protected: bool) -> Vec<Block> {
     let addresses: Vec<u64> = (0..records).map(|k| k * DECK_RECORD as u64).collect();
-    let (mut blocks, _) = commands(rng, &bench_board(protected), &addresses, 0);
+    let (mut blocks, _) =
+        commands(rng, BENCH_MEMORY as u64, &bench_drive(protected), &addresses, 0);
     for k in 1..blocks.len() {
         blocks[k - 1] = blocks[k - 1].next(addresses[k]);
     }

@@ -2,7 +2,7 @@
 //! hundred sectors, with commands near and past the ends of drive and memory, and
 //! IOPBs that are changed between the walk and the close.
 
-use crate::board::{Board, SECTOR_BYTES};
+use crate::board::SECTOR_BYTES;
 use crate::drive::Drive;
 use crate::makers::block::Block;
 use crate::makers::calls::{act, call_on_table, walk};
@@ -16,6 +16,7 @@ use crate::makers::wide_drives::some_drive_of;
 use crate::makers::ALL_32_BITS;
 use crate::place::counted_to;
 use crate::trial::line::Line;
+use crate::trial::state::State;
 
 const SGM: u8 = 0x10;
 /// The field of a record that says how many sectors would have fitted.
@@ -24,10 +25,10 @@ const FITTED_FIELD: u64 = 8;
 /// A chain with most of its commands near an end; calls, changes, and the rest.
 pub fn fitted_case(rng: &mut Rng, script: &mut Script) {
     ground(rng, script);
-    let mut chain = random_chain(rng, &script.state.board);
+    let mut chain = random_chain(rng, script.state.board.memory_bytes(), script.state.drive());
     for (_, block) in &mut chain.blocks {
         if rng.percent(75) {
-            *block = near_an_end(rng, &script.state.board, *block);
+            *block = near_an_end(rng, &script.state, *block);
         }
     }
     lay(rng, script, &chain);
@@ -67,16 +68,16 @@ fn ground(rng: &mut Rng, script: &mut Script) {
 /// A command near the end of the drive, of memory or of both, on one side or the
 /// other; or on a cylinder above its maximum. A list that it has stays, but at
 /// the end of memory.
-fn near_an_end(rng: &mut Rng, board: &Board, block: Block) -> Block {
+fn near_an_end(rng: &mut Rng, state: &State, block: Block) -> Block {
     match rng.below(10) {
-        0..=4 => near_end_of_drive(rng, board, block),
-        5..=7 => near_end_of_memory(rng, board, block),
+        0..=4 => near_end_of_drive(rng, state, block),
+        5..=7 => near_end_of_memory(rng, state, block),
         8 => {
-            let past = near_end_of_memory(rng, board, block);
-            near_end_of_drive(rng, board, past)
+            let past = near_end_of_memory(rng, state, block);
+            near_end_of_drive(rng, state, past)
         }
         _ => {
-            let cylinder = u64::from(board.drive.max_cylinder) + rng.between(1, 3);
+            let cylinder = u64::from(state.drive().max_cylinder) + rng.between(1, 3);
             let (head, sector) = (rng.below(4), u64::from(rng.byte()));
             block.at(cylinder.min(65_535), head, sector).count(rng.one_of(&[1, 40, 65_535]))
         }
@@ -85,23 +86,23 @@ fn near_an_end(rng: &mut Rng, board: &Board, block: Block) -> Block {
 
 /// So many sectors before the end of the drive, often about 255, with a count of
 /// so many, of one more or of far more.
-fn near_end_of_drive(rng: &mut Rng, board: &Board, block: Block) -> Block {
-    let all = board.drive.number_of_sectors();
+fn near_end_of_drive(rng: &mut Rng, state: &State, block: Block) -> Block {
+    let all = state.drive().number_of_sectors();
     let wanted = match rng.below(4) {
         0 | 1 => rng.one_of(&[1, 2, 253, 254, 255, 255, 256, 256, 257]),
         2 => all,
         _ => rng.between(1, all),
     };
     let sectors = wanted.min(all);
-    let place = counted_to(&board.drive, all - sectors).expect("it is on the drive");
+    let place = counted_to(state.drive(), all - sectors).expect("it is on the drive");
     let count = rng.one_of(&[sectors, sectors + 1, sectors + 1, 2 * sectors + 1, 65_535]);
     block.at(place.cylinder, place.head, place.sector).count(count)
 }
 
 /// So many whole sectors of memory after the data address, or some bytes fewer
 /// or more; at times an address at the end or past it.
-fn near_end_of_memory(rng: &mut Rng, board: &Board, block: Block) -> Block {
-    let memory = board.memory_bytes();
+fn near_end_of_memory(rng: &mut Rng, state: &State, block: Block) -> Block {
+    let memory = state.board.memory_bytes();
     let most = memory / SECTOR_BYTES;
     let sectors = if rng.once_in(4) { most } else { rng.between(0, most) };
     let start = memory - SECTOR_BYTES * sectors;

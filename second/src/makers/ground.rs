@@ -26,10 +26,10 @@ pub fn ground(rng: &mut Rng, script: &mut Script) {
     fill_image(rng, script);
 }
 
-/// An image of the drive's size. An odd step from sector to sector keeps all
+/// An image of the chosen unit's drive's size. An odd step from sector to sector keeps all
 /// sectors of a small drive apart.
 pub fn fill_image(rng: &mut Rng, script: &mut Script) {
-    let length = SECTOR_BYTES * script.state.board.drive.number_of_sectors();
+    let length = SECTOR_BYTES * script.state.drive().number_of_sectors();
     let (a, b, c) = (rng.byte(), rng.byte() | 1, rng.byte());
     script.say(Line::Image { length, a, b, c });
 }

@@ -29,7 +29,7 @@ pub fn walk_and_run(script: &mut Script, block: Block, sector: u64) {
         Line::Fields(0),
         Line::Written(u64::MAX),
         Line::Fields(0),
-        Line::Look(sector),
+        Line::look_0(sector),
     ]);
 }
 
@@ -128,7 +128,13 @@ fn example_deck(script: &mut Script) {
         script.picks(&[1, 0, 1, 1, 2, 3]);
     }
     example_case(script);
-    script.say_all([Line::Pick(0), Line::Pick(0), Line::Look(10), Line::Pick(1), Line::Look(16)]);
+    script.say_all([
+        Line::Pick(0),
+        Line::Pick(0),
+        Line::look_0(10),
+        Line::Pick(1),
+        Line::look_0(16),
+    ]);
     script.case();
     script.say(Line::Deck(deck_of(&example_records(), false)));
 }

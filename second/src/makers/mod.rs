@@ -16,6 +16,8 @@ pub mod rng;
 pub mod script;
 pub mod spoil;
 pub mod spoil_ranges;
+pub mod unit_calls;
+pub mod unit_cases;
 pub mod wide_cases;
 pub mod wide_drives;
 

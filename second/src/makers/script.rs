@@ -52,6 +52,16 @@ impl Script {
         self.say(Line::Drive(Drive { protected, ..drive }));
     }
 
+    /// Chooses a unit and makes it there, with a drive and an image.
+    pub fn give(&mut self, unit: u64, drive: Drive, image: Line) {
+        self.say_all([Line::Unit(unit), Line::Drive(drive), image, Line::There(true)]);
+    }
+
+    /// Chooses a unit and makes it absent; what is lent for it stays.
+    pub fn take_away(&mut self, unit: u64) {
+        self.say_all([Line::Unit(unit), Line::There(false)]);
+    }
+
     /// The drive and memory of the bench.
     pub fn bench_ground(&mut self, protected: bool) {
         self.drive(1, 1, 7, protected);

@@ -48,7 +48,7 @@ fn spoil_number(rng: &mut Rng, script: &mut Script) {
 
 /// The protect mark changes between the walk and the steps.
 fn spoil_protection(rng: &mut Rng, script: &mut Script) {
-    let right = script.state.board.drive;
+    let right = *script.state.drive();
     script.say(Line::Drive(Drive { protected: !right.protected, ..right }));
     some_calls(rng, script);
     if rng.percent(80) {
@@ -81,7 +81,9 @@ fn spoil_field(rng: &mut Rng, script: &mut Script) {
 /// A value of a field at one of its lines, or just beside.
 fn wrong_value(rng: &mut Rng, script: &Script, record: &Record, field: u64) -> u64 {
     let memory = script.state.board.memory_bytes();
-    let sectors = script.state.board.drive.number_of_sectors();
+    // The drive of the record's own unit, if that is there.
+    let own = script.state.board.unit(u64::from(record.unit)).unwrap_or(script.state.unit());
+    let sectors = own.drive.number_of_sectors();
     let count = u64::from(record.count);
     let taken = u64::from(record.taken);
     let either_side = |edge: u64| [edge.saturating_sub(1), edge, edge, edge + 1, edge + 1];
@@ -95,7 +97,7 @@ fn wrong_value(rng: &mut Rng, script: &Script, record: &Record, field: u64) -> u
         1 if rng.once_in(4) => rng.one_of(&[ALL_32_BITS, (1 << 32) - SECTOR_BYTES, memory]),
         1 => rng.one_of(&either_side(memory.saturating_sub(record.data_bytes()))),
         2 if rng.once_in(3) => {
-            let equal = script.state.board.drive.as_if_equal().number_of_sectors();
+            let equal = own.drive.as_if_equal().number_of_sectors();
             rng.one_of(&[ALL_32_BITS, sectors, equal.saturating_sub(count)])
         }
         2 => rng.one_of(&either_side(sectors.saturating_sub(count))),

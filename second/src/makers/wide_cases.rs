@@ -2,7 +2,7 @@
 //! that size, images that some bits of a drive's size would leave, and commands
 //! and records whose sums would be small again once they are cut off.
 
-use crate::board::{Board, SECTOR_BYTES};
+use crate::board::SECTOR_BYTES;
 use crate::drive::Drive;
 use crate::makers::block::Block;
 use crate::makers::calls::{call_on_table, calls_on_sizes, walk};
@@ -62,7 +62,7 @@ fn sizes_case(rng: &mut Rng, script: &mut Script) {
     script.say(Line::Drive(right));
     script.say(Line::Memory { length: rng.between(600, 3_000), a: rng.byte(), b: rng.byte() });
     fill_image(rng, script);
-    let chain = random_chain(rng, &script.state.board);
+    let chain = random_chain(rng, script.state.board.memory_bytes(), script.state.drive());
     lay(rng, script, &chain);
     walk(rng, script, chain.start);
     for _ in 0..rng.between(1, 2) {
@@ -71,11 +71,11 @@ fn sizes_case(rng: &mut Rng, script: &mut Script) {
         calls_on_sizes(rng, script);
         let place = rng.below(2);
         script.say(if rng.percent(50) { Line::Pick(place) } else { Line::LentPick(place) });
-        script.say_all([Line::Look(rng.below(40)), Line::Drive(right)]);
+        script.say_all([Line::look_0(rng.below(40)), Line::Drive(right)]);
         calls_on_sizes(rng, script);
         // A number of the right drive, but for one bit.
         let number = rng.below(right.number_of_sectors()) + (1 << rng.between(16, 31));
-        script.say_all([Line::Look(number), Line::Place(number)]);
+        script.say_all([Line::look_0(number), Line::Place(number)]);
     }
     script.say(if rng.percent(50) { Line::Walk(chain.start) } else { Line::LentWalk(chain.start) });
     script.say(Line::Written(u64::MAX));
@@ -91,7 +91,7 @@ fn empty_case(rng: &mut Rng, script: &mut Script) {
     script.say(Line::Drive(drive));
     script.say(Line::Memory { length: rng.between(30, 600), a: rng.byte(), b: 0 });
     calls_on_sizes(rng, script);
-    script.say_all([Line::Walk(0), Line::LentWalk(0), Line::Look(0), Line::Written(1)]);
+    script.say_all([Line::Walk(0), Line::LentWalk(0), Line::look_0(0), Line::Written(1)]);
 }
 
 /// A chain on a drive of so many sectors, most of its commands with something
@@ -107,10 +107,10 @@ fn far_case(rng: &mut Rng, script: &mut Script, sectors: u64) {
     script.say(Line::Drive(Drive { protected: rng.percent(10), ..drive }));
     script.say(Line::Memory { length, a: rng.byte(), b: rng.byte() });
     fill_image(rng, script);
-    let mut chain = random_chain(rng, &script.state.board);
+    let mut chain = random_chain(rng, script.state.board.memory_bytes(), script.state.drive());
     for (_, block) in &mut chain.blocks {
         if rng.percent(60) {
-            *block = at_an_edge(rng, &script.state.board, *block);
+            *block = at_an_edge(rng, script.state.drive(), *block);
         }
     }
     lay(rng, script, &chain);
@@ -121,8 +121,8 @@ fn far_case(rng: &mut Rng, script: &mut Script, sectors: u64) {
 }
 
 /// A command with its place, its count, its data or its list at an edge.
-fn at_an_edge(rng: &mut Rng, board: &Board, block: Block) -> Block {
-    let sectors = board.drive.number_of_sectors();
+fn at_an_edge(rng: &mut Rng, drive: &Drive, block: Block) -> Block {
+    let sectors = drive.number_of_sectors();
     // Only on the largest drive does a record's sector go past 2 to the 31.
     let kind = if sectors == 32_768 && rng.percent(60) { 0 } else { rng.below(6) };
     match kind {
@@ -132,7 +132,7 @@ fn at_an_edge(rng: &mut Rng, board: &Board, block: Block) -> Block {
         }
         2 => {
             // First sector + count is 65,536 or little more.
-            let sector = rng.between(1, board.drive.max_sector_of(0));
+            let sector = rng.between(1, drive.max_sector_of(0));
             block.at(0, 0, sector).count((65_536 - sector + rng.below(3)).min(65_535))
         }
         3 => {

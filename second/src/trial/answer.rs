@@ -5,7 +5,7 @@ use crate::bench::BenchReply;
 use crate::iopb::Fields;
 use crate::place::Place;
 use crate::run::{PicksReply, WrittenReply};
-use crate::trial::digest::{digest, digest_of_records};
+use crate::trial::digest::{digest, digest_end_to_end, digest_of_records};
 use crate::trial::state::State;
 use crate::walk::WalkReply;
 
@@ -76,10 +76,11 @@ impl Answer {
     }
 }
 
-/// The digests M, I and T of memory, image and all forty records.
+/// The digests M, I and T of memory, of all four images, those of absent units
+/// among them, and of all forty records.
 fn digests(state: &State) -> String {
     let memory = digest(&state.board.memory);
-    let image = digest(&state.board.image);
+    let image = digest_end_to_end(state.board.units.iter().map(|unit| unit.image.as_slice()));
     let table = digest_of_records(&state.table);
     format!("{memory:08x} {image:08x} {table:08x}")
 }

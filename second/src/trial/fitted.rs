@@ -75,10 +75,11 @@ fn holding<const N: usize>(chosen: [(bool, &'static str); N]) -> Vec<&'static st
 
 /// The rows of an accepted command.
 pub fn command_rows(board: &Board, fields: &Fields, record: &Record) -> Vec<&'static str> {
+    let drive = board.drive_of(fields.unit);
     match (record.code, fields.sgm) {
-        (0x10, _) if fields.cylinder > u64::from(board.drive.max_cylinder) => holding([
+        (0x10, _) if fields.cylinder > u64::from(drive.max_cylinder) => holding([
             (true, CYLINDER),
-            (u64::from(record.sector) > board.drive.number_of_sectors(), CYLINDER_WRAPS),
+            (u64::from(record.sector) > drive.number_of_sectors(), CYLINDER_WRAPS),
             (fields.sgm == 1, CYLINDER_LIST),
         ]),
         (0x10, _) => end_of_drive_rows(board, fields, record),
@@ -101,7 +102,8 @@ fn bytes_from(board: &Board, address: u32) -> u64 {
 }
 
 fn end_of_drive_rows(board: &Board, fields: &Fields, record: &Record) -> Vec<&'static str> {
-    let fitted = board.drive.number_of_sectors() - u64::from(record.sector);
+    let drive = board.drive_of(fields.unit);
+    let fitted = drive.number_of_sectors() - u64::from(record.sector);
     let listed = fields.sgm == 1;
     let both = !listed && past_memory(board, record);
     let in_memory = bytes_from(board, record.data) / SECTOR_BYTES;
@@ -113,7 +115,7 @@ fn end_of_drive_rows(board: &Board, fields: &Fields, record: &Record) -> Vec<&'s
         ((fields.count - fitted).min(255) != fitted.min(255), DRIVE_REST),
         (listed, DRIVE_LIST),
         (listed && fitted > 255, DRIVE_LIST_OVER),
-        (fields.command == 1 && board.drive.protected, DRIVE_PROTECTED),
+        (fields.command == 1 && drive.protected, DRIVE_PROTECTED),
         (both, BOTH_ENDS),
         (both && in_memory != fitted.min(255), BOTH_OTHER),
     ])

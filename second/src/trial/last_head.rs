@@ -2,7 +2,7 @@
 //! each says on which side of a line a call was, or that a board which took
 //! all heads for equal would have answered otherwise.
 
-use crate::board::Board;
+use crate::board::{Board, Unit};
 use crate::drive::Drive;
 use crate::iopb::Fields;
 use crate::place::{counted_to, Place};
@@ -129,16 +129,16 @@ fn heads_passed(drive: &Drive, record: &Record) -> Vec<u64> {
     places.filter(at_end).map(|place| place.head).collect()
 }
 
-/// The rows of a call that got 1; `others_right` says that everything but the
-/// drive and its image was right.
-pub fn refused_one_rows(board: &Board, word: &str, others_right: bool) -> Vec<String> {
+/// The rows of a call that got 1, for a unit that is there; `others_right` says
+/// that everything but its drive and image was right.
+pub fn refused_one_rows(unit: &Unit, word: &str, others_right: bool) -> Vec<String> {
     let mut rows = Vec::new();
-    if !board.drive.last_head_right() {
+    if !unit.drive.last_head_right() {
         rows.push(ABOVE.to_string());
-        if others_right && board.image_fits() {
+        if others_right && unit.image_fits() {
             rows.push(above_alone(word));
         }
-    } else if others_right && with_equal_heads(board).image_right() {
+    } else if others_right && !unit.image_right() && with_equal_heads(unit).image_right() {
         rows.push(EQUAL_IMAGE.to_string());
     }
     rows
@@ -146,17 +146,17 @@ pub fn refused_one_rows(board: &Board, word: &str, others_right: bool) -> Vec<St
 
 /// The row of a table that got 9 and would have been sound on equal heads.
 pub fn refused_nine_rows(board: &Board, table: &[Record], commands: u64) -> Vec<&'static str> {
-    if board.drive.last_head_shorter()
-        && causes(&with_equal_heads(board), table, commands).is_empty()
-    {
+    let units = board.units.each_ref().map(with_equal_heads);
+    let equal = Board { memory: board.memory.clone(), units };
+    if equal != *board && causes(&equal, table, commands).is_empty() {
         vec![EQUAL_NINE]
     } else {
         Vec::new()
     }
 }
 
-fn with_equal_heads(board: &Board) -> Board {
-    Board { drive: board.drive.as_if_equal(), ..board.clone() }
+fn with_equal_heads(unit: &Unit) -> Unit {
+    Unit { drive: unit.drive.as_if_equal(), ..unit.clone() }
 }
 
 /// The row of a look that got this number.

@@ -1,6 +1,7 @@
 //! One line of the case format: read from text, written as text.
 //! The words and limits are those of the format's own page.
 
+use crate::board::UNITS;
 use crate::drive::Drive;
 use crate::link_list::MOST_ELEMENTS;
 use crate::range::Range;
@@ -20,10 +21,10 @@ const BITS_16: u64 = 0xFFFF;
 const BITS_32: u64 = 0xFFFF_FFFF;
 
 /// The fields of a record before its ranges.
-pub const FIELDS: u64 = 9;
+pub const FIELDS: u64 = 10;
 /// The most that each of these fields may be, in order.
 pub const FIELD_MOST: [u64; FIELDS as usize] =
-    [BITS_32, BITS_32, BITS_32, BITS_32, BITS_16, BITS_8, BITS_8, BITS_16, BITS_8];
+    [BITS_32, BITS_32, BITS_32, BITS_32, BITS_16, BITS_8, BITS_8, BITS_16, BITS_8, BITS_8];
 
 #[derive(Clone, Debug, PartialEq, Eq)]
 pub enum Line {
@@ -37,6 +38,7 @@ pub enum Line {
         address: u64,
         bytes: Vec<u8>,
     },
+    Unit(u64),
     Image {
         length: u64,
         a: u8,
@@ -48,7 +50,8 @@ pub enum Line {
         bytes: Vec<u8>,
     },
     Drive(Drive),
-    /// A record by its nine fields; its ranges are all 0.
+    There(bool),
+    /// A record by its ten fields; its ranges are all 0.
     Record {
         place: u64,
         record: Record,
@@ -70,7 +73,10 @@ pub enum Line {
     Picks(Vec<u8>),
     Written(u64),
     Steps,
-    Look(u64),
+    Look {
+        unit: u64,
+        sector: u64,
+    },
     Place(u64),
     Fields(u64),
     View(u64),
@@ -80,6 +86,11 @@ pub enum Line {
 }
 
 impl Line {
+    /// A look at a sector of unit 0.
+    pub fn look_0(sector: u64) -> Line {
+        Line::Look { unit: 0, sector }
+    }
+
     /// Reads one line, without its newline.
     pub fn read(text: &str) -> Result<Line, String> {
         let (word, rest) = match text.split_once(' ') {
@@ -134,6 +145,7 @@ fn setting_line(word: &str, numbers: &[u64]) -> Result<Option<Line>, String> {
         ("put", [address, rest @ ..]) if !rest.is_empty() => {
             Line::Put { address: *address, bytes: bytes(rest, MOST_PATCH)? }
         }
+        ("unit", [unit]) => Line::Unit(up_to(UNITS - 1, *unit)?),
         ("image", [length, a, b, c]) => Line::Image {
             length: up_to(MOST_IMAGE, *length)?,
             a: byte(*a)?,
@@ -150,6 +162,15 @@ fn setting_line(word: &str, numbers: &[u64]) -> Result<Option<Line>, String> {
             last_head_max_sector: byte(*last)?,
             protected: up_to(1, *protected)? == 1,
         }),
+        ("there", [there]) => Line::There(up_to(1, *there)? == 1),
+        _ => return table_line(word, numbers),
+    };
+    Ok(Some(line))
+}
+
+/// A line that sets the table, or none if the word and numbers fit no such.
+fn table_line(word: &str, numbers: &[u64]) -> Result<Option<Line>, String> {
+    let line = match (word, numbers) {
         ("record", [place, fields @ ..]) if fields.len() as u64 == FIELDS => {
             Line::Record { place: up_to(TABLE_RECORDS - 1, *place)?, record: record(fields)? }
         }
@@ -181,7 +202,7 @@ fn record(fields: &[u64]) -> Result<Record, String> {
     Ok(record)
 }
 
-/// Sets one of the nine fields of a record, by its number in the format.
+/// Sets one of the ten fields of a record, by its number in the format.
 pub fn set_field(record: &mut Record, field: u64, value: u64) {
     match field {
         0 => record.iopb = value as u32,
@@ -193,11 +214,12 @@ pub fn set_field(record: &mut Record, field: u64, value: u64) {
         6 => record.code = value as u8,
         7 => record.ranges = value as u16,
         8 => record.fitted = value as u8,
-        _ => unreachable!("the format has fields 0 to 8"),
+        9 => record.unit = value as u8,
+        _ => unreachable!("the format has fields 0 to 9"),
     }
 }
 
-/// One of the nine fields of a record, by its number in the format.
+/// One of the ten fields of a record, by its number in the format.
 pub fn field_of(record: &Record, field: u64) -> u64 {
     match field {
         0 => u64::from(record.iopb),
@@ -209,7 +231,8 @@ pub fn field_of(record: &Record, field: u64) -> u64 {
         6 => u64::from(record.code),
         7 => u64::from(record.ranges),
         8 => u64::from(record.fitted),
-        _ => unreachable!("the format has fields 0 to 8"),
+        9 => u64::from(record.unit),
+        _ => unreachable!("the format has fields 0 to 9"),
     }
 }
 
@@ -221,7 +244,9 @@ fn calling_line(word: &str, numbers: &[u64]) -> Result<Option<Line>, String> {
         ("picks", places) => Line::Picks(bytes(places, MOST_PICKS)?),
         ("written", [budget]) => Line::Written(*budget),
         ("steps", []) => Line::Steps,
-        ("look", [sector]) => Line::Look(up_to(BITS_32, *sector)?),
+        ("look", [unit, sector]) => {
+            Line::Look { unit: up_to(BITS_8, *unit)?, sector: up_to(BITS_32, *sector)? }
+        }
         ("place", [sector]) => Line::Place(up_to(BITS_32, *sector)?),
         ("fields", [address]) => Line::Fields(up_to(BITS_32, *address)?),
         ("view", [address]) => Line::View(up_to(BITS_32, *address)?),
@@ -249,12 +274,14 @@ impl fmt::Display for Line {
                 write!(out, "put {address}")?;
                 list(out, bytes)
             }
+            Line::Unit(unit) => write!(out, "unit {unit}"),
             Line::Image { length, a, b, c } => write!(out, "image {length} {a} {b} {c}"),
             Line::Disk { offset, bytes } => {
                 write!(out, "disk {offset}")?;
                 list(out, bytes)
             }
             Line::Drive(drive) => write_drive(out, drive),
+            Line::There(there) => write!(out, "there {}", u8::from(*there)),
             Line::Record { place, record } => {
                 write!(out, "record {place}")?;
                 (0..FIELDS).try_for_each(|field| write!(out, " {}", field_of(record, field)))
@@ -286,7 +313,7 @@ fn write_calling(out: &mut fmt::Formatter<'_>, line: &Line) -> fmt::Result {
         }
         Line::Written(budget) => write!(out, "written {budget}"),
         Line::Steps => write!(out, "steps"),
-        Line::Look(sector) => write!(out, "look {sector}"),
+        Line::Look { unit, sector } => write!(out, "look {unit} {sector}"),
         Line::Place(sector) => write!(out, "place {sector}"),
         Line::Fields(address) => write!(out, "fields {address}"),
         Line::View(address) => write!(out, "view {address}"),

@@ -105,7 +105,8 @@ fn twice_rows(board: &Board, record: &Record, ranges: &[Range]) -> Vec<&'static 
         return Vec::new();
     }
     let from = SECTOR_BYTES * (u64::from(record.sector) + u64::from(record.taken));
-    let sector = &board.image[from as usize..][..SECTOR_BYTES as usize];
+    let sector =
+        &board.units[usize::from(record.unit)].image[from as usize..][..SECTOR_BYTES as usize];
     let mut filled: BTreeMap<u64, u8> = BTreeMap::new();
     let mut matters = false;
     for (address, byte) in bytes.iter().zip(sector) {

@@ -11,4 +11,7 @@ pub mod list_walks;
 pub mod state;
 pub mod stream;
 pub mod tally;
+pub mod unit_looks;
+pub mod unit_steps;
+pub mod unit_walks;
 pub mod wide;

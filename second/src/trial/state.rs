@@ -2,7 +2,8 @@
 //! that call are handed to the board's own functions.
 
 use crate::bench::bench;
-use crate::board::{Board, SECTOR_BYTES};
+use crate::board::{Board, Unit, SECTOR_BYTES};
+use crate::drive::Drive;
 use crate::iopb::{fields_at, view};
 use crate::look::{look, look_number};
 use crate::pick::pick;
@@ -19,6 +20,8 @@ const BY_VALUE: usize = MOST_COMMANDS as usize;
 #[derive(Clone, Debug, PartialEq, Eq)]
 pub struct State {
     pub board: Board,
+    /// The unit that the lines about images and drives set.
+    pub chosen: usize,
     pub table: [Record; TABLE_RECORDS as usize],
     pub commands: u64,
     pub lent: usize,
@@ -28,6 +31,7 @@ impl Default for State {
     fn default() -> State {
         State {
             board: Board::default(),
+            chosen: 0,
             table: [Record::default(); TABLE_RECORDS as usize],
             commands: 0,
             lent: 32,
@@ -36,6 +40,20 @@ impl Default for State {
 }
 
 impl State {
+    /// The chosen unit, there or not.
+    pub fn unit(&self) -> &Unit {
+        &self.board.units[self.chosen]
+    }
+
+    /// The chosen unit's drive as it is lent, whether it is there or not.
+    pub fn drive(&self) -> &Drive {
+        &self.unit().drive
+    }
+
+    fn unit_mut(&mut self) -> &mut Unit {
+        &mut self.board.units[self.chosen]
+    }
+
     /// Does what a line says. The error is for a patch that is not inside.
     pub fn play(&mut self, line: &Line) -> Result<Answer, String> {
         match line {
@@ -45,11 +63,13 @@ impl State {
             }
             Line::Memory { length, a, b } => self.board.memory = filled_memory(*length, *a, *b),
             Line::Image { length, a, b, c } => {
-                self.board.image = filled_image(*length, *a, *b, *c);
+                self.unit_mut().image = filled_image(*length, *a, *b, *c);
             }
             Line::Put { address, bytes } => patch(&mut self.board.memory, *address, bytes)?,
-            Line::Disk { offset, bytes } => patch(&mut self.board.image, *offset, bytes)?,
-            Line::Drive(drive) => self.board.drive = *drive,
+            Line::Disk { offset, bytes } => patch(&mut self.unit_mut().image, *offset, bytes)?,
+            Line::Unit(unit) => self.chosen = *unit as usize,
+            Line::Drive(drive) => self.unit_mut().drive = *drive,
+            Line::There(there) => self.unit_mut().there = *there,
             Line::Record { place, record } => self.table[*place as usize] = *record,
             Line::Range { place, index, range } => {
                 self.table[*place as usize].list[*index as usize] = *range;
@@ -82,12 +102,12 @@ impl State {
                 let in_use = self.commands.min(MOST_COMMANDS) as usize;
                 Answer::Steps(self.table[..in_use].iter().map(Record::steps).sum())
             }
-            Line::Look(sector) => Answer::Look {
-                number: look_number(&self.board, *sector),
-                part: look(&self.board, *sector).to_vec(),
+            Line::Look { unit, sector } => Answer::Look {
+                number: look_number(&self.board, *unit, *sector),
+                part: look(&self.board, *unit, *sector).to_vec(),
             },
             Line::Place(sector) => {
-                let (number, place) = place(&self.board.drive, *sector);
+                let (number, place) = place(self.drive(), *sector);
                 Answer::Place { number, place }
             }
             Line::Fields(address) => Answer::Fields(fields_at(&self.board, *address)),

@@ -2,6 +2,7 @@
 //! see what a trial has tried. Every row is there from the start, at 0.
 
 use crate::bench::BenchReply;
+use crate::board::Board;
 use crate::conflict::{data_bytes, meet, sectors, status_bytes};
 use crate::iopb::fields_at;
 use crate::pick::take_step;
@@ -14,13 +15,16 @@ use crate::trial::line::Line;
 use crate::trial::list_steps;
 use crate::trial::list_walks;
 use crate::trial::state::State;
+use crate::trial::unit_looks;
+use crate::trial::unit_steps;
+use crate::trial::unit_walks;
 use crate::trial::wide;
 use crate::walk::WalkReply;
 use std::collections::{BTreeMap, BTreeSet};
 
 const CODES: [u8; 12] = [0x00, 0x10, 0x11, 0x12, 0x13, 0x14, 0x1C, 0x1E, 0x1F, 0x42, 0x4B, 0x90];
 const KINDS: [&str; 4] = ["sector", "data-data", "data-status", "status-status"];
-const CAUSES: [(Cause, &str); 10] = [
+const CAUSES: [(Cause, &str); 11] = [
     (Cause::OverThirtyTwo, "over 32 commands"),
     (Cause::IopbOutside, "IOPB not all in memory"),
     (Cause::TakenAbove, "steps taken above steps"),
@@ -31,6 +35,7 @@ const CAUSES: [(Cause, &str); 10] = [
     (Cause::LengthsOff, "lengths that don't add up"),
     (Cause::SectorsOutside, "sectors outside drive"),
     (Cause::WriteProtected, "write to protected drive"),
+    (Cause::UnitAbsent, "transfer on an absent unit"),
 ];
 const LOOP: &str = "refused 4: a loop";
 const OVERLAP: &str = "refused 4: an overlap, no loop";
@@ -42,6 +47,8 @@ const PASSED: &str = "step past an unfinished command";
 pub struct Tally {
     names: Vec<String>,
     counts: BTreeMap<String, u64>,
+    /// Which sectors the case has written so far.
+    moved: unit_steps::Moved,
 }
 
 impl Default for Tally {
@@ -54,7 +61,7 @@ impl Tally {
     pub fn new() -> Tally {
         let names = all_names();
         let counts = names.iter().map(|name| (name.clone(), 0)).collect();
-        Tally { names, counts }
+        Tally { names, counts, moved: unit_steps::Moved::default() }
     }
 
     /// The rows, each a name and how often it came up.
@@ -84,7 +91,10 @@ impl Tally {
         self.see_drive(state, answer);
         match answer {
             Answer::Quiet | Answer::Steps(_) => {}
-            Answer::Case(_) => self.add("cases"),
+            Answer::Case(_) => {
+                self.moved = unit_steps::Moved::default();
+                self.add("cases");
+            }
             Answer::Walk { word, reply } => self.see_walk(before, state, word, reply),
             Answer::Pick { word, number } => {
                 self.see_call(before, state, word, *number);
@@ -120,35 +130,45 @@ impl Tally {
         if number == 0 {
             let in_use = &before.table[..before.commands as usize];
             self.add_all(fitted::call_rows(in_use, word));
+            self.add_all(unit_looks::call_rows(&state.board, in_use));
         }
     }
 
-    /// The drive, at each call that takes it.
+    /// The drives of the units that are there, at each call that takes them; of
+    /// a place the one that is asked.
     fn see_drive(&mut self, state: &State, answer: &Answer) {
         if let Answer::Walk { .. }
         | Answer::Pick { .. }
         | Answer::Picks(_)
         | Answer::Written(_)
-        | Answer::Look { .. }
-        | Answer::Place { .. } = answer
+        | Answer::Look { .. } = answer
         {
-            self.add_all(wide::drive_rows(&state.board.drive));
+            for unit in state.board.present() {
+                self.add_all(wide::drive_rows(&unit.drive));
+            }
+        }
+        if let Answer::Place { .. } = answer {
+            self.add_all(wide::drive_rows(state.drive()));
         }
     }
 
     fn see_look(&mut self, state: &State, line: &Line, number: u8) {
         self.add(&format!("look {number}"));
         self.see_one(state, "look", number);
-        if let Line::Look(sector) = line {
-            self.add_all(last_head::look_rows(&state.board.drive, *sector, number));
-            self.add_all(wide::look_rows(&state.board, *sector, number));
+        let Line::Look { unit, sector } = line else {
+            return;
+        };
+        self.add_all(unit_looks::look_rows(&state.board, *unit, *sector, number));
+        if let Some(unit) = state.board.unit(*unit) {
+            self.add_all(last_head::look_rows(&unit.drive, *sector, number));
+            self.add_all(wide::look_rows(unit, *sector, number));
         }
     }
 
     fn see_place(&mut self, state: &State, line: &Line, number: u8, place: &Place) {
         self.add(&format!("place {number}"));
         if let Line::Place(sector) = line {
-            let drive = &state.board.drive;
+            let drive = state.drive();
             self.add_all(last_head::place_rows(drive, *sector, number, place));
             self.add_all(wide::place_rows(drive, *sector, number));
         }
@@ -167,19 +187,28 @@ impl Tally {
             return;
         }
         self.add(&format!("chain of {}", reply.commands));
-        let drive = &state.board.drive;
-        self.add_all(last_head::drive_rows(drive));
+        for unit in state.board.present() {
+            self.add_all(last_head::drive_rows(&unit.drive));
+        }
+        self.add_all(unit_walks::walk_rows(&state.board));
         let records = &state.table[..reply.commands as usize];
         for (record, address) in records.iter().zip(&reply.reached) {
-            self.add(&format!("code {:02X}", record.code));
-            let fields = fields_at(&state.board, *address);
-            self.add_all(last_head::command_rows(drive, &fields, record));
-            self.add_all(list_walks::command_rows(&state.board, &fields, record));
-            self.add_all(wide::command_rows(&state.board, &fields, record));
-            self.add_all(fitted::command_rows(&state.board, &fields, record));
-            if fields.next % 2 == 1 {
-                self.add(if fields.chen == 1 { ODD_CHAINED } else { ODD_ALONE });
-            }
+            self.see_command(&state.board, *address, record);
+        }
+    }
+
+    /// An accepted command of a walk.
+    fn see_command(&mut self, board: &Board, address: u64, record: &Record) {
+        self.add(&format!("code {:02X}", record.code));
+        let fields = fields_at(board, address);
+        let drive = board.drive_of(fields.unit);
+        self.add_all(last_head::command_rows(&drive, &fields, record));
+        self.add_all(list_walks::command_rows(board, &fields, record));
+        self.add_all(wide::command_rows(board, &fields, record));
+        self.add_all(fitted::command_rows(board, &fields, record));
+        self.add_all(unit_walks::command_rows(board, &fields, record));
+        if fields.next % 2 == 1 {
+            self.add(if fields.chen == 1 { ODD_CHAINED } else { ODD_ALONE });
         }
     }
 
@@ -187,13 +216,20 @@ impl Tally {
     /// forms ask for the length of the lent table.
     fn see_one(&mut self, state: &State, word: &str, number: u8) {
         if number != 1 {
+            self.add_all(unit_looks::not_one_rows(&state.board, word));
             return;
         }
         let memory_right = word == "look" || state.board.memory_right();
         let table_right = !word.starts_with("lent") || state.lent as u64 >= MOST_COMMANDS;
-        let others_right = memory_right && table_right;
-        self.add_all(last_head::refused_one_rows(&state.board, word, others_right));
-        self.add_all(wide::refused_one_rows(&state.board, word, others_right));
+        let units = || state.board.units.iter().enumerate().filter(|(_, unit)| unit.there);
+        for (k, unit) in units() {
+            let mut others = units().filter(|(other, _)| *other != k);
+            let others_right =
+                memory_right && table_right && others.all(|(_, unit)| unit.image_right());
+            self.add_all(last_head::refused_one_rows(unit, word, others_right));
+            self.add_all(wide::refused_one_rows(unit, word, others_right));
+            self.add_all(unit_looks::refused_one_rows(unit, k as u64, word, others_right));
+        }
     }
 
     fn see_finished(&mut self, number: u8, finished: bool) {
@@ -229,11 +265,13 @@ impl Tally {
         if number == 6 {
             self.see_conflict(&earlier, &picked);
             self.add_all(list_steps::conflict_rows(&earlier, &picked));
+            self.add_all(unit_steps::conflict_rows(&earlier, &picked));
             return;
         }
         if !earlier.is_empty() {
             self.add(PASSED);
             self.add_all(list_steps::past_rows(&earlier, &picked));
+            self.add_all(unit_steps::past_rows(&earlier, &picked));
         }
         self.see_step(state, place as usize);
     }
@@ -241,6 +279,9 @@ impl Tally {
     fn see_step(&mut self, state: &mut State, place: usize) {
         self.add_all(list_steps::step_rows(&state.board, &state.table[place]));
         self.add_all(fitted::step_rows(&state.board, &state.table[place]));
+        self.add_all(unit_steps::step_rows(&state.board, &state.table[place]));
+        let moved = self.moved.step_rows(&state.table[place]);
+        self.add_all(moved);
         take_step(&mut state.board, &mut state.table[place]);
     }
 
@@ -265,6 +306,7 @@ impl Tally {
         let in_use = &state.table[..state.commands.min(MOST_COMMANDS) as usize];
         self.add_all(list_steps::refused_nine_rows(in_use));
         self.add_all(wide::refused_nine_rows(&state.board, in_use, &found));
+        self.add_all(unit_looks::refused_nine_rows(&state.board, in_use, &found));
         for (cause, name) in CAUSES {
             if found.contains(&cause) {
                 self.add(&format!("refused 9: {name}"));
@@ -322,8 +364,9 @@ pub fn kinds(one: &Record, other: &Record) -> BTreeSet<&'static str> {
     found
 }
 
-fn all_names() -> Vec<String> {
-    let mut names = vec!["cases".to_string()];
+/// Each call with each number that it can give.
+fn names_of_calls() -> Vec<String> {
+    let mut names = Vec::new();
     for (word, numbers) in [
         ("walk", vec![0, 1, 2, 3, 4, 5]),
         ("lentwalk", vec![0, 1, 2, 3, 4, 5]),
@@ -333,12 +376,18 @@ fn all_names() -> Vec<String> {
         // 1 and 9 are tested before the first pick of a list.
         ("pick in a list", vec![0, 6, 7, 8]),
         ("written", vec![0, 1, 9]),
-        ("look", vec![0, 1, 10]),
+        ("look", vec![0, 1, 10, 11]),
         ("place", vec![0, 1, 10]),
         ("view", vec![0, 2, 3]),
     ] {
         names.extend(numbers.iter().map(|number| format!("{word} {number}")));
     }
+    names
+}
+
+fn all_names() -> Vec<String> {
+    let mut names = vec!["cases".to_string()];
+    names.extend(names_of_calls());
     names.extend(["fields", "run finished", "run not finished"].map(String::from));
     names.extend(CODES.iter().map(|code| format!("code {code:02X}")));
     names.extend(KINDS.iter().map(|kind| format!("conflict {kind}")));
@@ -353,6 +402,9 @@ fn all_names() -> Vec<String> {
     names.extend(list_steps::names().into_iter().map(String::from));
     names.extend(wide::names());
     names.extend(fitted::names());
+    names.extend(unit_walks::names());
+    names.extend(unit_steps::names());
+    names.extend(unit_looks::names());
     // The bench's sizes are right and it starts at 0, so 1 and 2 cannot come.
     names.extend(
         ["bench deck", "bench chain 3", "bench chain 4", "bench chain 5"].map(String::from),

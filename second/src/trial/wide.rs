@@ -2,7 +2,7 @@
 //! large a drive, a place or a record's sector was, or that a board which cut a
 //! product or a sum off there would have answered otherwise.
 
-use crate::board::{Board, IMAGE_LIMIT, SECTOR_BYTES};
+use crate::board::{Board, Unit, IMAGE_LIMIT, SECTOR_BYTES};
 use crate::drive::Drive;
 use crate::iopb::Fields;
 use crate::link_list::{elements_said, ELEMENT_BYTES};
@@ -102,23 +102,24 @@ pub fn place_rows(drive: &Drive, sector: u64, number: u8) -> Vec<&'static str> {
     ])
 }
 
-/// The rows of a look that got this number.
-pub fn look_rows(board: &Board, sector: u64, number: u8) -> Vec<&'static str> {
+/// The rows of a look at a unit that is there, with its number.
+pub fn look_rows(unit: &Unit, sector: u64, number: u8) -> Vec<&'static str> {
     let offset = left(SECTOR_BYTES * sector, 32);
     holding([
-        (number == 10 && left(sector, 16) < board.drive.number_of_sectors(), LOOK_10),
-        (number == 10 && offset < board.image.len() as u64, OFFSET_10),
+        (number == 10 && left(sector, 16) < unit.drive.number_of_sectors(), LOOK_10),
+        (number == 10 && offset < unit.image.len() as u64, OFFSET_10),
     ])
 }
 
-/// The rows of a call that got 1; `others_right` says that everything but the
-/// drive and its image was right.
-pub fn refused_one_rows(board: &Board, word: &str, others_right: bool) -> Vec<String> {
-    let image = board.image.len() as u64;
-    if !others_right || !board.drive.last_head_right() || image > IMAGE_LIMIT {
+/// The rows of a call that got 1, for a unit that is there; `others_right` says
+/// that everything but its drive and image was right.
+pub fn refused_one_rows(unit: &Unit, word: &str, others_right: bool) -> Vec<String> {
+    let image = unit.image.len() as u64;
+    let otherwise = !unit.drive.last_head_right() || image > IMAGE_LIMIT || unit.image_right();
+    if !others_right || otherwise {
         return Vec::new();
     }
-    let sectors = board.drive.number_of_sectors();
+    let sectors = unit.drive.number_of_sectors();
     let bytes = SECTOR_BYTES * sectors;
     let found = if image == 0 {
         let mut found = holding(NO_COUNT.map(|(bits, name)| (left(sectors, bits) == 0, name)));
@@ -141,7 +142,7 @@ pub fn command_rows(board: &Board, fields: &Fields, record: &Record) -> Vec<&'st
     let mut rows =
         holding([(record.sector >= 1 << 16, RECORD_16), (record.sector >= 1 << 31, RECORD_31)]);
     rows.extend(match (record.code, fields.sgm) {
-        (0x10, _) => end_of_drive_rows(&board.drive, fields, record),
+        (0x10, _) => end_of_drive_rows(&board.drive_of(fields.unit), fields, record),
         (0x00, 0) if record.is_transfer() => holding([(end_of(record) == 1 << 16, END_00)]),
         (0x4B, 0) => end_of_memory_rows(board, record),
         (0x4B, _) if !record.has_list() => end_of_list_rows(board, record),
@@ -201,9 +202,10 @@ pub fn refused_nine_rows(
 ) -> Vec<&'static str> {
     let transfers = || in_use.iter().filter(|record| record.is_transfer());
     if *found == BTreeSet::from([Cause::SectorsOutside]) {
-        let sectors = board.drive.number_of_sectors();
+        let sectors = |record: &Record| board.drive_of(record.unit.into()).number_of_sectors();
         let sum = |record: &Record| u64::from(record.sector) + u64::from(record.count);
-        let right = |bits: u32| transfers().all(|record| left(sum(record), bits) <= sectors);
+        let right =
+            |bits: u32| transfers().all(|record| left(sum(record), bits) <= sectors(record));
         return holding(NINE_SECTORS.map(|(bits, name)| (right(bits), name)));
     }
     if *found == BTreeSet::from([Cause::DataOutside]) {

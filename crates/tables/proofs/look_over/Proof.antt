@@ -12,19 +12,20 @@ use Rattle.command.specs.declared.sound.Looked.{Looked}
 use Rattle.command.specs.Look.{mayBlock}
 use Rattle.board.specs.Sight.{sightOf}
 use Rattle.board.proofs.Sighting.{sees-near, sees-far, sees-none}
+use Rattle.meaning.specs.Drives.{drivesOf}
 use borrow.Author.Needs.{needs}
 use Rattle.tables.proofs.look_over.Statement.{statement}
 use Rattle.tables.proofs.look_over.Tie as tie
 
 abbrev Inv-loop : tie.InvT-loop
-Inv-loop memory d n place table wanted bad₀ blocked₀ k₀ bad blocked k = (k ≤ n) × (lib.ListN.length table ≡ 32) × (record { bad = bad; blocked = blocked } ≡ sightOf memory d k place table)
+Inv-loop memory drives n place table wanted bad₀ blocked₀ k₀ bad blocked k = (k ≤ n) × (lib.ListN.length table ≡ 32) × (record { bad = bad; blocked = blocked } ≡ sightOf memory (drivesOf drives) k place table)
 
 abbrev μ-loop : tie.MeasureT-loop
-μ-loop memory d n place table wanted bad₀ blocked₀ k₀ bad blocked k = n - k
+μ-loop memory drives n place table wanted bad₀ blocked₀ k₀ bad blocked k = n - k
 
 -- one record more is seen, whichever way the branch went
 more : (c : tie.Joined1 Inv-loop μ-loop) → let a = c .before .before .before .before .before .before .before .before .args in let l = c .before .before .before .before .before .loop in
-    record { bad = l .bad || c .before .before .look .result .bad; blocked = c .if1 .blocked } ≡ sightOf (a .memory) (a .d) (l .k + 1) (a .place) (a .t1)
+    record { bad = l .bad || c .before .before .look .result .bad; blocked = c .if1 .blocked } ≡ sightOf (a .memory) (drivesOf (a .l)) (l .k + 1) (a .place) (a .t1)
 more c = let a = c .before .before .before .before .before .before .before .before .args in
     let l = c .before .before .before .before .before .loop in
     let r = getD (a .t1) (l .k) noRecord in
@@ -35,10 +36,10 @@ more c = let a = c .before .before .before .before .before .before .before .befo
     elim (c .if1 .came) [
       | inl (i, _, _, v, e) ↦
           (λ j. record { bad = bad j; blocked = (e ∙ ap (λ (b : Bool). l .blocked || b) (v .ensures)) j })
-          ∙ sees-near (a .memory) (a .d) (l .k) (a .place) (a .t1) in-table (sym near ∙ i .taken) (l .bad) (l .blocked) (l .inv .2)
+          ∙ sees-near (a .memory) (drivesOf (a .l)) (l .k) (a .place) (a .t1) in-table (sym near ∙ i .taken) (l .bad) (l .blocked) (l .inv .2)
       | inr (i, e) ↦
           (λ j. record { bad = bad j; blocked = e j })
-          ∙ sees-far (a .memory) (a .d) (l .k) (a .place) (a .t1) in-table (sym near ∙ i .left) (l .bad) (l .blocked) (l .inv .2)
+          ∙ sees-far (a .memory) (drivesOf (a .l)) (l .k) (a .place) (a .t1) in-table (sym near ∙ i .left) (l .bad) (l .blocked) (l .inv .2)
     ]
 
 mul-footprint-of : tie.Need-mul-footprint-of Inv-loop μ-loop
@@ -51,7 +52,7 @@ footprint-of-requires : tie.Need-footprint-of-requires Inv-loop μ-loop
 footprint-of-requires c κs = search needs
 
 loop-holds : tie.Need-loop-holds Inv-loop μ-loop
-loop-holds c = let a = c .before .before .args in (omega arith, search needs, sees-none (a .memory) (a .d) (a .place) (a .t1))
+loop-holds c = let a = c .before .before .args in (omega arith, search needs, sees-none (a .memory) (drivesOf (a .l)) (a .place) (a .t1))
 
 mul-look : tie.Need-mul-look Inv-loop μ-loop
 mul-look c = let h = c .before .before .before .before .pre in omega (arith, c .before .loop .inv .1)
@@ -88,7 +89,7 @@ loop-again c = (omega arith, c .before .before .before .before .before .loop .in
 
 returns : tie.Need-returns Inv-loop μ-loop
 returns c = let a = c .before .before .before .before .args in let l = c .before .loop in let all : l .k ≡ a .n = let h = c .loop-test .left in let g = l .inv .0 in omega arith in
-    l .inv .2 ∙ ap (λ (k : ℕ). sightOf (a .memory) (a .d) k (a .place) (a .t1)) all
+    l .inv .2 ∙ ap (λ (k : ℕ). sightOf (a .memory) (drivesOf (a .l)) k (a .place) (a .t1)) all
 
 pub look-over-spec : {M : Type 1} → statement M
 look-over-spec =

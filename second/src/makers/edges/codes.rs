@@ -82,7 +82,7 @@ fn data_edges(script: &mut Script) {
             script.bench_case();
             script.block(0x40, read.command(command).count(count).data(data));
             script.say_all([Line::Walk(0x40), Line::Steps, Line::Pick(0), Line::Fields(0x40)]);
-            script.say_all([Line::Written(u64::MAX), Line::Fields(0x40), Line::Look(9)]);
+            script.say_all([Line::Written(u64::MAX), Line::Fields(0x40), Line::look_0(9)]);
         }
     }
 }
@@ -95,7 +95,7 @@ fn drive_edges(script: &mut Script) {
         script.case();
         script.drive(cylinder, head, sector, false);
         script.say(memory(2_048));
-        let sectors = script.state.board.drive.number_of_sectors();
+        let sectors = script.state.drive().number_of_sectors();
         script.say(image(sectors));
         let (c, h, s) = (u64::from(cylinder), u64::from(head), u64::from(sector));
         let read = Block::new(READ).count(1).data(0x400);
@@ -106,6 +106,6 @@ fn drive_edges(script: &mut Script) {
         blocks.push(read.at(c, 255, 255));
         blocks.push(read.at(c, h, 255));
         run_chain(script, &blocks);
-        script.say_all([Line::Look(sectors - 1), Line::Look(sectors)]);
+        script.say_all([Line::look_0(sectors - 1), Line::look_0(sectors)]);
     }
 }

@@ -159,7 +159,7 @@ fn written_out_by_another(script: &mut Script) {
         script.block(0x040, Block::new(READ).at(0, 0, 5).count(1).data(0x400).next(0x400));
         script.block(0x400, last);
         script.say_all([Line::Walk(0), Line::Pick(3), Line::Written(3), Line::Fields(0x400)]);
-        script.say_all([Line::Pick(3), Line::Fields(0x400), Line::Fields(0), Line::Look(5)]);
+        script.say_all([Line::Pick(3), Line::Fields(0x400), Line::Fields(0), Line::look_0(5)]);
     }
 }
 

@@ -186,7 +186,7 @@ fn lists_outside(script: &mut Script) {
         script.link_list(0xFF8, &list_of(&[(0x800, 512)]));
         let blocks: Vec<Block> = blocks.iter().map(|block| block.command(command)).collect();
         run_chain(script, &blocks);
-        script.say(Line::Look(10));
+        script.say(Line::look_0(10));
     }
 }
 

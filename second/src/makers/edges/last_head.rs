@@ -78,7 +78,7 @@ fn both_ways(script: &mut Script, place: (u64, u64, u64)) {
     for command in [READ, WRITE] {
         case_on(script, PACK, 2_048);
         walk_and_run(script, transfer(place, 1).command(command), number);
-        script.say_all([Line::Look(number.saturating_sub(1)), Line::Look(number + 1)]);
+        script.say_all([Line::look_0(number.saturating_sub(1)), Line::look_0(number + 1)]);
     }
 }
 
@@ -111,7 +111,7 @@ fn order_of_codes(script: &mut Script) {
         blocks.extend([past.command(WRITE), last.count(2).command(WRITE)]);
         blocks.extend([last.command(WRITE).data(0x600), past.command(0)]);
         run_chain(script, &blocks);
-        script.say_all([22, 23].map(Line::Look));
+        script.say_all([22, 23].map(Line::look_0));
     }
 }
 
@@ -132,7 +132,7 @@ fn end_of_drive(script: &mut Script) {
                 case_on(script, PACK, ROOM_FOR_THIRTY);
                 walk_and_run(script, transfer(place, count).command(command), 23);
                 // From the sector before the first on to the one past the last.
-                script.say_all((23_u64.saturating_sub(fit)..=24).map(Line::Look));
+                script.say_all((23_u64.saturating_sub(fit)..=24).map(Line::look_0));
             }
         }
     }
@@ -165,7 +165,7 @@ fn at_its_maxima(script: &mut Script, drive: Drive) {
     case_on(script, drive, 2_048);
     run_chain(script, &blocks);
     let equal = drive.as_if_equal().number_of_sectors();
-    script.say_all([sectors - 1, sectors, equal - 1, equal].map(Line::Look));
+    script.say_all([sectors - 1, sectors, equal - 1, equal].map(Line::look_0));
 }
 
 /// A table made by hand whose sectors end at the drive's end and past it, the
@@ -193,7 +193,7 @@ fn nines(script: &mut Script) {
             script.say_all([Line::Commands(1), Line::Steps, Line::Pick(1), Line::Pick(0)]);
             script.picks(&[0, 0]);
             script.say_all([Line::LentPick(0), Line::Written(0), Line::Written(u64::MAX)]);
-            script.say_all([0, 11, 12, 21, 22, 23, 24].map(Line::Look));
+            script.say_all([0, 11, 12, 21, 22, 23, 24].map(Line::look_0));
         }
     }
 }
@@ -217,7 +217,7 @@ fn looks(script: &mut Script) {
         case_on(script, drive, 64);
         let sectors = drive.number_of_sectors();
         let equal = drive.as_if_equal().number_of_sectors();
-        script.say_all((0..=sectors).map(Line::Look));
-        script.say_all([sectors + 1, equal - 1, equal, ALL_32_BITS].map(Line::Look));
+        script.say_all((0..=sectors).map(Line::look_0));
+        script.say_all([sectors + 1, equal - 1, equal, ALL_32_BITS].map(Line::look_0));
     }
 }

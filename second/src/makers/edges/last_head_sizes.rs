@@ -24,7 +24,13 @@ pub fn all(script: &mut Script) {
 /// leaves no commands. A budget and a list that would take steps, too.
 fn every_call(script: &mut Script) {
     script.say_all([Line::Pick(0), Line::LentPick(0), Line::Picks(vec![0, 1]), Line::Written(1)]);
-    script.say_all([Line::Steps, Line::Look(0), Line::Look(23), Line::Place(0), Line::Place(23)]);
+    script.say_all([
+        Line::Steps,
+        Line::look_0(0),
+        Line::look_0(23),
+        Line::Place(0),
+        Line::Place(23),
+    ]);
     script.say_all([Line::Walk(0), Line::LentWalk(0), Line::Pick(0), Line::Written(u64::MAX)]);
 }
 
@@ -46,7 +52,7 @@ fn image_lengths(script: &mut Script) {
         script.say(Line::Walk(0));
         script.say(Line::Image { length, a: 5, b: 3, c: 11 });
         every_call(script);
-        script.say(Line::Look(ALL_32_BITS));
+        script.say(Line::look_0(ALL_32_BITS));
     }
 }
 
@@ -86,11 +92,11 @@ fn above_with_image(script: &mut Script, drive: Drive, sectors: u64) {
     script.record(1, Record { iopb: 32, byte0: WRITE, data: 0x600, ..record });
     script.say(Line::Commands(2));
     every_call(script);
-    script.say_all([Line::Look(sectors), Line::Place(ALL_32_BITS)]);
+    script.say_all([Line::look_0(sectors), Line::Place(ALL_32_BITS)]);
     let mended = drive.as_if_equal();
     script.say_all([Line::Drive(mended), image(mended.number_of_sectors())]);
     script.say_all([Line::Walk(0), Line::Commands(2), Line::Written(u64::MAX)]);
-    script.say_all([0, 1].map(Line::Look));
+    script.say_all([0, 1].map(Line::look_0));
 }
 
 /// Drives far too large for any image: with a last maximum above the other,
@@ -110,7 +116,7 @@ fn huge_with_images(script: &mut Script, drive: Drive) {
         script.say(Line::Drive(drive));
         script.say_all([memory(600), image(sectors)]);
         every_call(script);
-        script.say_all([255, 256, ALL_32_BITS].map(Line::Look));
+        script.say_all([255, 256, ALL_32_BITS].map(Line::look_0));
     }
 }
 
@@ -128,9 +134,9 @@ fn changed_in_between(script: &mut Script) {
         script.say_all([Line::Walk(0), Line::Pick(0), Line::Drive(wrong)]);
         script.say_all([Line::Pick(0), Line::Pick(1), Line::Pick(2), Line::LentPick(0)]);
         script.picks(&[1, 0, 0]);
-        script.say_all([Line::Written(9), Line::Look(0), Line::Look(99), Line::Place(0)]);
+        script.say_all([Line::Written(9), Line::look_0(0), Line::look_0(99), Line::Place(0)]);
         script.say_all([Line::Drive(right), Line::Pick(1), Line::Written(9)]);
-        script.say_all((0..6).map(Line::Look));
+        script.say_all((0..6).map(Line::look_0));
         script.say_all([Line::Drive(wrong), Line::LentWalk(0), Line::Walk(0), Line::Walk(1)]);
     }
 }
@@ -154,7 +160,7 @@ fn largest_images(script: &mut Script) {
         script.block(32, write.count(2).next(64));
         script.block(64, write.at(cylinder, head, last + 1));
         script.say_all([Line::Walk(0), Line::Written(9)]);
-        script.say_all([32_766, 32_767, 32_768].map(Line::Look));
+        script.say_all([32_766, 32_767, 32_768].map(Line::look_0));
         script.say_all([32_767, 32_768].map(Line::Place));
         script.say_all([0, 32, 64].map(Line::Fields));
     }

@@ -34,7 +34,7 @@ fn later_first(script: &mut Script, first: Block, second: Block) {
     script.block(0x20, second);
     script.say_all([Line::Walk(0), Line::Pick(1), Line::Pick(0), Line::Pick(1)]);
     script.say_all([Line::Written(9), Line::Fields(0), Line::Fields(0x20)]);
-    script.say_all([3, 9].map(Line::Look));
+    script.say_all([3, 9].map(Line::look_0));
 }
 
 /// Two commands with lists on sectors that are not in each other's way.

@@ -119,7 +119,7 @@ fn over_a_later_list(script: &mut Script) {
             script.block(0, Block::new(READ).at(0, 0, 3).count(1).data(0x600).next(0x20));
             script.block(0x20, Block::new(command).at(0, 1, 0).count(1).list(0x680, 2));
             script.say_all([Line::Walk(0), Line::Pick(first_pick), Line::Pick(1 - first_pick)]);
-            script.say_all([Line::Look(8), Line::Fields(0x20)]);
+            script.say_all([Line::look_0(8), Line::Fields(0x20)]);
             // The list is gone: walked again, the chain is another.
             script.say_all([Line::Walk(0), Line::Written(u64::MAX), Line::Fields(0x20)]);
         }
@@ -133,7 +133,7 @@ fn list_over_iopbs(script: &mut Script) {
         list_case(script);
         script.block(0, Block::new(command).at(0, 1, 0).count(1).list(0x18, 2));
         script.link_list(0x18, &list_of(&[(0x600, 300), (0x900, 212)]));
-        script.say_all([Line::Walk(0), Line::Written(u64::MAX), Line::Fields(0), Line::Look(8)]);
+        script.say_all([Line::Walk(0), Line::Written(u64::MAX), Line::Fields(0), Line::look_0(8)]);
     }
     // The element's last byte is byte 0 of the IOPB at 40H: its address ends
     // with 20H, which is a chained No Operation, and with 60H after its close.
@@ -146,7 +146,7 @@ fn list_over_iopbs(script: &mut Script) {
             script.block(0x60, Block::new(command).at(0, 1, 0).count(1).list(0x39, 1));
             script.say(Line::Walk(0));
             script.picks(&picks);
-            script.say_all([Line::Fields(0x40), Line::Fields(0x60), Line::Look(8)]);
+            script.say_all([Line::Fields(0x40), Line::Fields(0x60), Line::look_0(8)]);
         }
     }
 }
@@ -161,7 +161,12 @@ fn over_own_status(script: &mut Script) {
                 script.link_list(LIST, &list_of(&ranges));
                 script.block(0x40, listed(command, 2, 2));
                 script.say_all([Line::Walk(0x40), Line::Pick(0), Line::Fields(0x40)]);
-                script.say_all([Line::Pick(0), Line::Fields(0x40), Line::Look(8), Line::Look(9)]);
+                script.say_all([
+                    Line::Pick(0),
+                    Line::Fields(0x40),
+                    Line::look_0(8),
+                    Line::look_0(9),
+                ]);
             }
         }
     }

@@ -34,7 +34,7 @@ fn eight_steps(script: &mut Script) {
 
 fn look_at_all(script: &mut Script) {
     script.say_all([0x00, 0x20, 0x40].map(Line::Fields));
-    script.say_all([2, 3, 8, 9, 10, 19, 20, 21].map(Line::Look));
+    script.say_all([2, 3, 8, 9, 10, 19, 20, 21].map(Line::look_0));
 }
 
 fn budgets(script: &mut Script) {
@@ -91,7 +91,12 @@ fn one_long_command(script: &mut Script) {
         script.link_list(0x2000, &longest_list(0));
         script.block(0, Block::new(command).at(0, 0, 1).count(4_095).list(0x2000, 32));
         script.say_all([Line::Walk(0), Line::Steps, Line::Pick(0), Line::Written(200)]);
-        script.say_all([Line::Written(u64::MAX), Line::Look(0), Line::Look(1), Line::Look(4_095)]);
+        script.say_all([
+            Line::Written(u64::MAX),
+            Line::look_0(0),
+            Line::look_0(1),
+            Line::look_0(4_095),
+        ]);
     }
 }
 
@@ -111,5 +116,5 @@ fn most_steps(script: &mut Script) {
         script.block(32 * k, if k < 31 { block.next(32 * (k + 1)) } else { block });
     }
     script.say_all([Line::Walk(0), Line::Steps, Line::Written(70_000), Line::Written(1 << 32)]);
-    script.say_all([Line::Fields(0), Line::Fields(31 * 32), Line::Look(0), Line::Look(4_000)]);
+    script.say_all([Line::Fields(0), Line::Fields(31 * 32), Line::look_0(0), Line::look_0(4_000)]);
 }

@@ -50,7 +50,7 @@ fn calls(script: &mut Script) {
     script.picks(&[]);
     script.say_all([Line::Written(0), Line::LentPick(0), Line::Fields(0x40)]);
     script.picks(&[0, 1]);
-    script.say_all([Line::Written(u64::MAX), Line::Look(8), Line::Look(9)]);
+    script.say_all([Line::Written(u64::MAX), Line::look_0(8), Line::look_0(9)]);
 }
 
 /// A table of one record, in a case of its own.
@@ -240,7 +240,7 @@ fn spoiled_after_the_walk(script: &mut Script) {
         script.picks(&[0, 3]);
         script.say_all([Line::Written(1), at(0, 0x600, 700), at(1, 0xA00, 836)]);
         script.spoil(0, 7, 2);
-        script.say_all([Line::Written(u64::MAX), Line::Look(9), Line::Fields(0)]);
+        script.say_all([Line::Written(u64::MAX), Line::look_0(9), Line::Fields(0)]);
     }
 }
 

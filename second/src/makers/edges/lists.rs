@@ -104,7 +104,7 @@ pub fn walk_and_show(script: &mut Script, block: Block) {
     script.block(0, block);
     script.say_all([Line::Walk(0), Line::Steps, Line::Pick(0), Line::Fields(0)]);
     script.say_all([Line::Written(u64::MAX), Line::Fields(0)]);
-    script.say_all((SECTOR..SECTOR + 3).map(Line::Look));
+    script.say_all((SECTOR..SECTOR + 3).map(Line::look_0));
 }
 
 /// One command with this list, in a case of its own.

@@ -1,6 +1,6 @@
 //! Further cases made by hand, at every edge of document 01, of the last head's
-//! own maximum, of link lists, of 16 and 32 bits and of how much would have
-//! fitted, and past it; each file here has one subject.
+//! own maximum, of link lists, of 16 and 32 bits, of how much would have fitted
+//! and of several drives, and past it; each file here has one subject.
 
 pub mod closes;
 pub mod codes;
@@ -26,6 +26,11 @@ pub mod places;
 pub mod runs;
 pub mod shortcuts;
 pub mod sizes;
+pub mod unit_conflicts;
+pub mod unit_runs;
+pub mod unit_sizes;
+pub mod unit_tables;
+pub mod units;
 pub mod views;
 pub mod walks;
 pub mod wide_ends;
@@ -74,6 +79,11 @@ pub fn all_edges(script: &mut Script) {
     fitted_codes::all(script);
     fitted_tables::all(script);
     fitted_closes::all(script);
+    units::all(script);
+    unit_conflicts::all(script);
+    unit_sizes::all(script);
+    unit_tables::all(script);
+    unit_runs::all(script);
 }
 
 /// Memory of a length, with a pattern.

@@ -51,7 +51,7 @@ fn transfers(script: &mut Script) {
             script.block(0, transfer(place, count).command(command));
             script.say_all([Line::Walk(0), Line::Steps, Line::Written(1), Line::Written(1)]);
             script.say_all([Line::Written(u64::MAX), Line::Fields(0)]);
-            script.say_all((0..=drive.number_of_sectors()).map(Line::Look));
+            script.say_all((0..=drive.number_of_sectors()).map(Line::look_0));
         }
     }
 }
@@ -64,7 +64,7 @@ fn step_by_step(script: &mut Script) {
         script.say(Line::Walk(0));
         for _ in 0..5 {
             script.say(Line::Pick(0));
-            script.say_all((2..=7).map(Line::Look));
+            script.say_all((2..=7).map(Line::look_0));
         }
     }
 }
@@ -88,7 +88,7 @@ fn conflicts_at_an_end(script: &mut Script) {
         script.say_all([Line::Walk(0), Line::Pick(1), Line::Pick(0), Line::Pick(1)]);
         script.picks(&[1, 0, 1, 1, 1]);
         script.say_all([Line::Written(u64::MAX), Line::Fields(32)]);
-        script.say_all((4..=7).map(Line::Look));
+        script.say_all((4..=7).map(Line::look_0));
     }
 }
 
@@ -102,6 +102,6 @@ fn over_each_cylinder(script: &mut Script, drive: Drive) {
         script.block(32, transfer((cylinder + 1, 0, 0), 1).data(0xA00));
         script.say_all([Line::Walk(0), Line::Pick(1), Line::Written(u64::MAX)]);
         let end = drive.sector_number(cylinder + 1, 0, 0);
-        script.say_all((end.saturating_sub(2)..=end + 1).map(Line::Look));
+        script.say_all((end.saturating_sub(2)..=end + 1).map(Line::look_0));
     }
 }

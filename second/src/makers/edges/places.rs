@@ -114,6 +114,6 @@ fn no_image_asked_for(script: &mut Script) {
         script.say(Line::Drive(Drive { protected, ..PACK }));
         script.say_all([memory(memory_bytes), image(sectors)]);
         script.say_all([9, 10, 11, 12, 23, 24].map(Line::Place));
-        script.say_all([Line::Look(12), Line::Pick(0), Line::Walk(0), Line::Place(12)]);
+        script.say_all([Line::look_0(12), Line::Pick(0), Line::Walk(0), Line::Place(12)]);
     }
 }

@@ -36,7 +36,7 @@ fn lists(script: &mut Script) {
         six_steps(script);
         script.picks(&list);
         script.picks(&[]);
-        script.say_all([Line::Look(8), Line::Look(24), Line::Fields(0x20), Line::Written(2)]);
+        script.say_all([Line::look_0(8), Line::look_0(24), Line::Fields(0x20), Line::Written(2)]);
     }
 }
 
@@ -77,5 +77,5 @@ fn order_of_refusals(script: &mut Script) {
     script.block(0x40, write.data(0xC00));
     script.say(Line::Walk(0));
     script.picks(&[2, 1, 0, 1, 0, 2, 1, 2, 1, 2, 2]);
-    script.say_all([Line::Look(5), Line::Look(6), Line::Fields(0x40)]);
+    script.say_all([Line::look_0(5), Line::look_0(6), Line::Fields(0x40)]);
 }

@@ -53,7 +53,7 @@ fn head_to_cylinder(script: &mut Script) {
     script.block(0, Block::new(READ).at(0, 0, 1).count(12).data(0x200).next(32));
     script.block(32, Block::new(WRITE).at(1, 1, 1).count(4).data(0x1800));
     script.say_all([Line::Walk(0), Line::Written(3), Line::Written(4), Line::Written(99)]);
-    script.say_all([8, 9, 10, 11, 12, 13].map(Line::Look));
+    script.say_all([8, 9, 10, 11, 12, 13].map(Line::look_0));
 }
 
 /// Data over the command's own IOPB: the status is written last.
@@ -62,6 +62,6 @@ fn own_iopb(script: &mut Script) {
         script.bench_case();
         script.block(0x300, Block::new(command).at(0, 1, 0).count(2).data(0x200));
         script.say_all([Line::Walk(0x300), Line::Pick(0), Line::Fields(0x300), Line::Pick(0)]);
-        script.say_all([Line::Fields(0x300), Line::Look(8), Line::Look(9)]);
+        script.say_all([Line::Fields(0x300), Line::look_0(8), Line::look_0(9)]);
     }
 }

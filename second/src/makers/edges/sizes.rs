@@ -35,7 +35,7 @@ fn memory_limits(script: &mut Script) {
         script.say_all([memory(65_536), image(256)]);
         script.block(65_506, Block::new(READ).at(0, 0, 9).count(count).data(data));
         script.say_all([Line::Walk(65_506), Line::Pick(0), Line::Written(126)]);
-        script.say_all([Line::Written(200), Line::Fields(65_506), Line::Look(136)]);
+        script.say_all([Line::Written(200), Line::Fields(65_506), Line::look_0(136)]);
     }
     // One byte short of an IOPB, and just one.
     for length in [29, 30, 31] {
@@ -61,7 +61,7 @@ fn small_images(script: &mut Script) {
         script.say(Line::Image { length, a: 1, b: 2, c: 3 });
         script.block(0, Block::new(READ).count(1).data(88));
         every_call(script, 0);
-        script.say(Line::Look(1));
+        script.say(Line::look_0(1));
     }
 }
 
@@ -79,7 +79,12 @@ fn largest_images(script: &mut Script) {
         script.block(64, whole.count(32_769).next(96));
         script.block(96, whole.count(65_535).next(128));
         script.block(128, Block::new(READ).at(cylinder, head, sector).count(2));
-        script.say_all([Line::Walk(0), Line::Written(9), Line::Look(32_767), Line::Look(32_768)]);
+        script.say_all([
+            Line::Walk(0),
+            Line::Written(9),
+            Line::look_0(32_767),
+            Line::look_0(32_768),
+        ]);
         script.say_all([0, 32, 64, 96, 128].map(Line::Fields));
     }
 }
@@ -98,7 +103,7 @@ fn past_largest_images(script: &mut Script) {
         script.case();
         script.drive(drive.0, drive.1, drive.2, false);
         script.say_all([memory(64), Line::Image { length, a: 5, b: 3, c: 11 }]);
-        script.say_all([Line::Walk(0), Line::Pick(0), Line::Look(0), Line::Look(ALL_32_BITS)]);
+        script.say_all([Line::Walk(0), Line::Pick(0), Line::look_0(0), Line::look_0(ALL_32_BITS)]);
         script.say_all([Line::Picks(vec![0]), Line::Written(1)]);
     }
 }
@@ -111,12 +116,12 @@ fn too_large_drives(script: &mut Script) {
             script.drive(cylinder, head, sector, false);
             script.say_all([memory(600), image(sectors)]);
             every_call(script, 0);
-            script.say_all([Line::Look(255), Line::Look(256), Line::Look(ALL_32_BITS)]);
+            script.say_all([Line::look_0(255), Line::look_0(256), Line::look_0(ALL_32_BITS)]);
         }
     }
     script.case();
     script.drive(65_535, 255, 255, true);
-    script.say_all([memory(600), image(32_768), Line::Walk(0), Line::Look(32_767)]);
+    script.say_all([memory(600), image(32_768), Line::Walk(0), Line::look_0(32_767)]);
 }
 
 fn lent_lengths(script: &mut Script) {
@@ -143,7 +148,7 @@ fn every_call(script: &mut Script, start: u64) {
         Line::LentWalk(start),
         Line::LentPick(0),
         Line::Steps,
-        Line::Look(0),
+        Line::look_0(0),
         Line::View(start),
     ]);
 }

@@ -264,7 +264,7 @@ fn end_of_ranges(script: &mut Script) {
             script.link_list(0x400, &list_of(&[(0x600, 2), (address, 65_534)]));
             script.block(0, Block::new(command).count(128).list(0x400, 2));
             script.say_all([Line::Walk(0), Line::Steps, Line::Pick(0), Line::Written(u64::MAX)]);
-            script.say_all([Line::Look(0), Line::Look(127), Line::Fields(0)]);
+            script.say_all([Line::look_0(0), Line::look_0(127), Line::Fields(0)]);
         }
     }
 }
@@ -286,5 +286,5 @@ fn far_sectors(script: &mut Script) {
     }
     run_chain(script, &blocks);
     let each = sectors.iter().flat_map(|sector| [*sector, sector + 1]);
-    script.say_all([0, 1].into_iter().chain(each).map(Line::Look));
+    script.say_all([0, 1].into_iter().chain(each).map(Line::look_0));
 }

@@ -134,10 +134,10 @@ fn in_the_middle(script: &mut Script, drive: Drive) {
 fn one_bit_more(script: &mut Script) {
     script.case();
     script.drive(1, 1, 7, false);
-    script.say_all([memory(64), image(32), Line::Place(3), Line::Look(3)]);
+    script.say_all([memory(64), image(32), Line::Place(3), Line::look_0(3)]);
     for bits in 5..32 {
         let number = 3 + (1 << bits);
-        script.say_all([Line::Place(number), Line::Look(number)]);
+        script.say_all([Line::Place(number), Line::look_0(number)]);
     }
     // On 65,535 sectors the sixteen low bits of a number are nearly all.
     script.case();

@@ -88,7 +88,12 @@ fn two_commands(script: &mut Script) {
 /// leaves no commands. The looks are at the first sectors and far past them.
 fn every_call(script: &mut Script) {
     script.say_all([Line::Pick(1), Line::LentPick(1), Line::Picks(vec![1, 0]), Line::Written(1)]);
-    script.say_all([Line::Look(0), Line::Look(1), Line::Look(100), Line::Look(ALL_32_BITS)]);
+    script.say_all([
+        Line::look_0(0),
+        Line::look_0(1),
+        Line::look_0(100),
+        Line::look_0(ALL_32_BITS),
+    ]);
     script.say_all([Line::LentWalk(0), Line::Walk(0), Line::Steps]);
 }
 
@@ -99,11 +104,11 @@ fn tempted(script: &mut Script, right: Drive, wrong: Drive) {
     script.say(Line::Drive(right));
     script.say_all([memory(2_048), image(right.number_of_sectors())]);
     two_commands(script);
-    script.say_all([Line::Walk(0), Line::Pick(0), Line::Look(0), Line::Drive(wrong)]);
+    script.say_all([Line::Walk(0), Line::Pick(0), Line::look_0(0), Line::Drive(wrong)]);
     every_call(script);
     script.say_all([Line::Commands(2), Line::Drive(right)]);
     every_call(script);
-    script.say_all([Line::Written(u64::MAX), Line::Look(0)]);
+    script.say_all([Line::Written(u64::MAX), Line::look_0(0)]);
 }
 
 /// For every number of bits up to the last one that a drive can lose: a drive
@@ -135,10 +140,10 @@ fn with_image(script: &mut Script, drive: Drive, sectors: u64) {
 fn largest_image(script: &mut Script) {
     script.case();
     script.say(Line::Drive(FEW_HEADS));
-    script.say_all([memory(64), image(32_768), Line::Look(32_767), Line::Look(32_768)]);
+    script.say_all([memory(64), image(32_768), Line::look_0(32_767), Line::look_0(32_768)]);
     for wrong in [short(2, 127, 255, 255), short(256, 127, 255, 255)] {
         script.say(Line::Drive(wrong));
-        script.say_all([Line::Look(32_767), Line::Look(32_768), Line::Walk(0)]);
+        script.say_all([Line::look_0(32_767), Line::look_0(32_768), Line::Walk(0)]);
     }
-    script.say_all([Line::Drive(FEW_HEADS), Line::Look(0), Line::Walk(0)]);
+    script.say_all([Line::Drive(FEW_HEADS), Line::look_0(0), Line::Walk(0)]);
 }

@@ -38,7 +38,7 @@ fn calls(script: &mut Script) {
     script.picks(&[]);
     script.say_all([Line::LentPick(0), Line::Written(0)]);
     script.picks(&[0, 1]);
-    script.say_all([Line::Written(u64::MAX), Line::Fields(0x40), Line::Look(9)]);
+    script.say_all([Line::Written(u64::MAX), Line::Fields(0x40), Line::look_0(9)]);
 }
 
 /// A table of one record, in a case of its own.

@@ -4,7 +4,9 @@ use Prim.Native.Nat.{ℕ, _≤_, _-_, min}
 use native.Mathlib.Omega.{arith}
 use lib.ListN.{getD}
 use borrow.Author.Needs.{needs}
-use Rattle.meaning.specs.State.{stateOf, mostCommands}
+use Rattle.meaning.specs.Store.{memory, disk, lent, images}
+use Rattle.meaning.specs.Drives.{drivesOf}
+use Rattle.meaning.specs.State.{stateIn, mostCommands}
 use Rattle.meaning.specs.Command.{remaining, noRecord}
 use Rattle.meaning.specs.Run.{runNumber, asWritten}
 use Rattle.board.specs.Changes.{handed}
@@ -21,44 +23,44 @@ use Rattle.board.proofs.run.written_taken.Statement.{statement}
 use Rattle.board.proofs.run.written_taken.Tie as tie
 
 abbrev Inv-loop : tie.InvT-loop
-Inv-loop memory image d many commands budget table taken₀ seen₀ k₀ taken seen k =
-    Opened d commands (stateOf memory image table) taken seen k
+Inv-loop m image0 image1 image2 image3 drives many commands budget table taken₀ seen₀ k₀ taken seen k =
+    Opened (drivesOf drives) commands (stateIn (lent m (images image0 image1 image2 image3)) table) taken seen k
 
 abbrev μ-loop : tie.MeasureT-loop
-μ-loop memory image d many commands budget table taken₀ seen₀ k₀ taken seen k =
+μ-loop m image0 image1 image2 image3 drives many commands budget table taken₀ seen₀ k₀ taken seen k =
     32 - k
 
 abbrev Inv-loop2 : tie.InvT-loop2
-Inv-loop2 memory₀ image₀ d many commands budget table taken₀ seen k number left₀ at₀ memory image taken left at =
-    WrittenLeft d commands budget memory₀ image₀ table memory image taken left at
+Inv-loop2 m₀ image0₀ image1₀ image2₀ image3₀ drives many commands budget table taken₀ seen k number left₀ at₀ m image0 image1 image2 image3 taken left at =
+    WrittenLeft (drivesOf drives) commands budget (lent m₀ (images image0₀ image1₀ image2₀ image3₀)) table (lent m (images image0 image1 image2 image3)) taken left at
 
 abbrev μ-loop2 : tie.MeasureT-loop2
-μ-loop2 memory₀ image₀ d many commands budget table taken₀ seen k number left₀ at₀ memory image taken left at =
+μ-loop2 m₀ image0₀ image1₀ image2₀ image3₀ drives many commands budget table taken₀ seen k number left₀ at₀ m image0 image1 image2 image3 taken left at =
     commands - at
 
 -- past the first loop a run that is not refused has been handed all of its table, and goes
-whole : (c : tie.Else1 Inv-loop μ-loop Inv-loop2 μ-loop2) → let a = (c .before .before .before .before .before .before .before .before .args) in let s = stateOf (a .memory .now) (a .image .now) (a .t4) in handed (a .length) s ≡ s
-whole c = let a = c .before .before .before .before .before .before .before .before .args in
-    let l = c .before .before .before .before .before .loop in
-    whole-handed (a .d) (a .commands) (a .memory .now) (a .image .now) (a .t4) (l .taken) (l .seen) (l .k) (l .inv) (c .before .before .before .before .loop-test .left) (a .length) (c .before .first-number .result) (c .before .first-number .ensures) (c .if1 .left)
+whole : (c : tie.Else1 Inv-loop μ-loop Inv-loop2 μ-loop2) → let a = (c .before .before .before .before .before .before .before .before .before .before .before .before .before .before .args) in let s = stateIn (lent (a .memory .now) (images (a .image0 .now) (a .image1 .now) (a .image2 .now) (a .image3 .now))) (a .t7) in handed (a .length) s ≡ s
+whole c = let a = c .before .before .before .before .before .before .before .before .before .before .before .before .before .before .args in
+    let l = c .before .before .before .before .before .before .before .before .loop in
+    whole-handed (drivesOf (a .l)) (a .commands) (lent (a .memory .now) (images (a .image0 .now) (a .image1 .now) (a .image2 .now) (a .image3 .now))) (a .t7) (l .taken) (l .seen) (l .k) (l .inv) (c .before .before .before .before .before .before .before .loop-test .left) (a .length) (c .before .first-number .result) (c .before .first-number .ensures) (c .if1 .left)
 
-goes : (c : tie.Else1 Inv-loop μ-loop Inv-loop2 μ-loop2) → let a = (c .before .before .before .before .before .before .before .before .args) in runNumber (a .d) (a .commands) (stateOf (a .memory .now) (a .image .now) (a .t4)) ≡ 0
-goes c = let a = c .before .before .before .before .before .before .before .before .args in
-    let l = c .before .before .before .before .before .loop in
-    run-goes (a .d) (a .commands) (a .memory .now) (a .image .now) (a .t4) (l .taken) (l .seen) (l .k) (l .inv) (c .before .before .before .before .loop-test .left) (a .length) (c .before .first-number .result) (c .before .first-number .ensures) (c .if1 .left)
+goes : (c : tie.Else1 Inv-loop μ-loop Inv-loop2 μ-loop2) → let a = (c .before .before .before .before .before .before .before .before .before .before .before .before .before .before .args) in runNumber (drivesOf (a .l)) (a .commands) (stateIn (lent (a .memory .now) (images (a .image0 .now) (a .image1 .now) (a .image2 .now) (a .image3 .now))) (a .t7)) ≡ 0
+goes c = let a = c .before .before .before .before .before .before .before .before .before .before .before .before .before .before .args in
+    let l = c .before .before .before .before .before .before .before .before .loop in
+    run-goes (drivesOf (a .l)) (a .commands) (lent (a .memory .now) (images (a .image0 .now) (a .image1 .now) (a .image2 .now) (a .image3 .now))) (a .t7) (l .taken) (l .seen) (l .k) (l .inv) (c .before .before .before .before .before .before .before .loop-test .left) (a .length) (c .before .first-number .result) (c .before .first-number .ensures) (c .if1 .left)
 
-few : (c : tie.At-loop2 Inv-loop μ-loop Inv-loop2 μ-loop2) → (c .before .before .before .before .before .before .before .before .before .args .commands) ≤ mostCommands
-few c = let a = c .before .before .before .before .before .before .before .before .before .args in
+few : (c : tie.At-loop2 Inv-loop μ-loop Inv-loop2 μ-loop2) → (c .before .before .before .before .before .before .before .before .before .before .before .before .before .before .before .args .commands) ≤ mostCommands
+few c = let a = c .before .before .before .before .before .before .before .before .before .before .before .before .before .before .before .args in
     let l = c .loop2 in
-    in-use-few (a .d) (a .commands) (a .budget) (a .memory .now) (a .image .now) (a .t4) (l .memory) (l .image) (l .taken) (l .left) (l .at) (l .inv)
+    in-use-few (drivesOf (a .l)) (a .commands) (a .budget) (lent (a .memory .now) (images (a .image0 .now) (a .image1 .now) (a .image2 .now) (a .image3 .now))) (a .t7) (lent (l .memory) (images (l .image0) (l .image1) (l .image2) (l .image3))) (l .taken) (l .left) (l .at) (l .inv)
 
 -- how many steps the command takes
-count : (c : tie.After-fewer Inv-loop μ-loop Inv-loop2 μ-loop2) → let a = (c .before .before .before .before .before .before .before .before .before .before .before .before .before .args) in let l = (c .before .before .before .before .loop2) in (c .fewer .result) ≡ min (l .left) (remaining (getD (a .t4) (l .at) noRecord))
+count : (c : tie.After-fewer Inv-loop μ-loop Inv-loop2 μ-loop2) → let a = (c .before .before .before .before .before .before .before .before .before .before .before .before .before .before .before .before .before .before .before .args) in let l = (c .before .before .before .before .loop2) in (c .fewer .result) ≡ min (l .left) (remaining (getD (a .t7) (l .at) noRecord))
 count c = (c .fewer .ensures) ∙ ap (min (c .before .before .before .before .loop2 .left)) (c .before .remaining2 .ensures)
 
 loop-holds : tie.Need-loop-holds Inv-loop μ-loop Inv-loop2 μ-loop2
-loop-holds c = let a = c .before .before .args in
-    opened-begin (a .d) (a .commands) (stateOf (a .memory .now) (a .image .now) (a .t4)) _ refl (search needs)
+loop-holds c = let a = c .before .before .before .before .before .args in
+    opened-begin (drivesOf (a .l)) (a .commands) (stateIn (lent (a .memory .now) (images (a .image0 .now) (a .image1 .now) (a .image2 .now) (a .image3 .now))) (a .t7)) _ refl (search needs)
 
 mul-r : tie.Need-mul-r Inv-loop μ-loop Inv-loop2 μ-loop2
 mul-r c = omega arith
@@ -94,9 +96,9 @@ loop-less : tie.Need-loop-less Inv-loop μ-loop Inv-loop2 μ-loop2
 loop-less c = omega arith
 
 loop-again : tie.Need-loop-again Inv-loop μ-loop Inv-loop2 μ-loop2
-loop-again c = let a = c .before .before .before .before .before .before .before .before .before .args in
+loop-again c = let a = c .before .before .before .before .before .before .before .before .before .before .before .before .args in
     let l = c .before .before .before .before .before .before .loop in
-    opened-more (a .d) (a .commands) (a .memory .now) (a .image .now) (a .t4) (l .taken) (l .seen) (l .k) (l .inv) (c .with-record .result) (c .before .before .before .before .before .loop-test .taken)
+    opened-more (drivesOf (a .l)) (a .commands) (lent (a .memory .now) (images (a .image0 .now) (a .image1 .now) (a .image2 .now) (a .image3 .now))) (a .t7) (l .taken) (l .seen) (l .k) (l .inv) (c .with-record .result) (c .before .before .before .before .before .loop-test .taken)
     (c .with-record .ensures .0 ∙ ap₂ (λ (b : Bool) (n : ℕ). seenWith (ltb (l .k) (a .commands)) b n (l .seen)) (c .before .before .bad-record .ensures) (c .before .remaining .ensures)) (c .with-record .ensures .1)
 
 first-number-requires : tie.Need-first-number-requires Inv-loop μ-loop Inv-loop2 μ-loop2
@@ -111,20 +113,29 @@ same-length c = search needs
 same-length-2 : tie.Need-same-length-2 Inv-loop μ-loop Inv-loop2 μ-loop2
 same-length-2 c = search needs
 
+same-length-3 : tie.Need-same-length-3 Inv-loop μ-loop Inv-loop2 μ-loop2
+same-length-3 c = search needs
+
+same-length-4 : tie.Need-same-length-4 Inv-loop μ-loop Inv-loop2 μ-loop2
+same-length-4 c = search needs
+
+same-length-5 : tie.Need-same-length-5 Inv-loop μ-loop Inv-loop2 μ-loop2
+same-length-5 c = search needs
+
 returns : tie.Need-returns Inv-loop μ-loop Inv-loop2 μ-loop2
-returns c = let a = c .before .before .before .before .before .before .before .before .before .args in
-    let s = stateOf (a .memory .now) (a .image .now) (a .t4) in
-    let l = c .before .before .before .before .before .before .loop in
-    let number = number-is (a .d) (a .commands) (a .memory .now) (a .image .now) (a .t4) (l .taken) (l .seen) (l .k) (l .inv) (c .before .before .before .before .before .loop-test .left) (a .length) (c .before .before .first-number .result) (c .before .before .first-number .ensures) in
-    subst (λ (x : Ran). RunTakes (a .d) (a .commands) (asWritten (a .d) (a .commands) (a .budget)) (a .length) s (record { ran = x; taken = l .taken }) (s .store)) (sym (c .refused .ensures))
-    (refused-takes (a .d) (a .commands) (asWritten (a .d) (a .commands) (a .budget)) (a .length) s (c .before .before .first-number .result) (l .taken) number (c .before .if1 .taken)
-    (all-taken (a .d) (a .commands) (a .memory .now) (a .image .now) (a .t4) (l .taken) (l .seen) (l .k) (l .inv) (c .before .before .before .before .before .loop-test .left)))
+returns c = let a = c .before .before .before .before .before .before .before .before .before .before .before .before .before .before .before .args in
+    let s = stateIn (lent (a .memory .now) (images (a .image0 .now) (a .image1 .now) (a .image2 .now) (a .image3 .now))) (a .t7) in
+    let l = c .before .before .before .before .before .before .before .before .before .loop in
+    let number = number-is (drivesOf (a .l)) (a .commands) (lent (a .memory .now) (images (a .image0 .now) (a .image1 .now) (a .image2 .now) (a .image3 .now))) (a .t7) (l .taken) (l .seen) (l .k) (l .inv) (c .before .before .before .before .before .before .before .before .loop-test .left) (a .length) (c .before .before .first-number .result) (c .before .before .first-number .ensures) in
+    subst (λ (x : Ran). RunTakes (drivesOf (a .l)) (a .commands) (asWritten (drivesOf (a .l)) (a .commands) (a .budget)) (a .length) s (record { ran = x; taken = l .taken }) (s .store)) (sym (c .refused .ensures))
+    (refused-takes (drivesOf (a .l)) (a .commands) (asWritten (drivesOf (a .l)) (a .commands) (a .budget)) (a .length) s (c .before .before .first-number .result) (l .taken) number (c .before .if1 .taken)
+    (all-taken (drivesOf (a .l)) (a .commands) (lent (a .memory .now) (images (a .image0 .now) (a .image1 .now) (a .image2 .now) (a .image3 .now))) (a .t7) (l .taken) (l .seen) (l .k) (l .inv) (c .before .before .before .before .before .before .before .before .loop-test .left)))
 
 loop2-holds : tie.Need-loop2-holds Inv-loop μ-loop Inv-loop2 μ-loop2
-loop2-holds c = let a = c .before .before .before .before .before .before .before .before .args in
-    let l = c .before .before .before .before .before .loop in
-    written-begin (a .d) (a .commands) (a .budget) (a .memory .now) (a .image .now) (a .t4) (l .taken) (l .inv .full) (l .inv .long)
-    (all-taken (a .d) (a .commands) (a .memory .now) (a .image .now) (a .t4) (l .taken) (l .seen) (l .k) (l .inv) (c .before .before .before .before .loop-test .left)) (goes c)
+loop2-holds c = let a = c .before .before .before .before .before .before .before .before .before .before .before .before .before .before .args in
+    let l = c .before .before .before .before .before .before .before .before .loop in
+    written-begin (drivesOf (a .l)) (a .commands) (a .budget) (lent (a .memory .now) (images (a .image0 .now) (a .image1 .now) (a .image2 .now) (a .image3 .now))) (a .t7) (l .taken) (l .inv .full) (l .inv .long)
+    (all-taken (drivesOf (a .l)) (a .commands) (lent (a .memory .now) (images (a .image0 .now) (a .image1 .now) (a .image2 .now) (a .image3 .now))) (a .t7) (l .taken) (l .seen) (l .k) (l .inv) (c .before .before .before .before .before .before .before .loop-test .left)) (goes c)
 
 mul-r-2 : tie.Need-mul-r-2 Inv-loop μ-loop Inv-loop2 μ-loop2
 mul-r-2 c = omega (arith, few (c .before))
@@ -139,58 +150,67 @@ fewer-requires : tie.Need-fewer-requires Inv-loop μ-loop Inv-loop2 μ-loop2
 fewer-requires c κs = search needs
 
 take-steps-requires : tie.Need-take-steps-requires Inv-loop μ-loop Inv-loop2 μ-loop2
-take-steps-requires c κs = let a = c .before .before .before .before .before .before .before .before .before .before .before .before .before .before .before .args in
-    let l = c .before .before .before .before .before .before .loop2 in
-    turn-ready (a .d) (a .commands) (a .budget) (a .memory .now) (a .image .now) (a .t4) (l .memory) (l .image) (l .taken) (l .left) (l .at) (l .inv) (c .before .before .before .before .before .loop2-test .taken) (c .before .before .fewer .result) (count (c .before .before))
+take-steps-requires c κs = let a = c .before .before .before .before .before .before .before .before .before .before .before .before .before .before .before .before .before .before .before .before .before .before .before .before .args in
+    let l = c .before .before .before .before .before .before .before .before .before .loop2 in
+    turn-ready (drivesOf (a .l)) (a .commands) (a .budget) (lent (a .memory .now) (images (a .image0 .now) (a .image1 .now) (a .image2 .now) (a .image3 .now))) (a .t7) (lent (l .memory) (images (l .image0) (l .image1) (l .image2) (l .image3))) (l .taken) (l .left) (l .at) (l .inv) (c .before .before .before .before .before .before .before .before .loop2-test .taken) (c .before .before .before .before .before .fewer .result) (count (c .before .before .before .before .before))
 
 add-taken : tie.Need-add-taken Inv-loop μ-loop Inv-loop2 μ-loop2
 unfolding remaining
-add-taken c = let a = c .before .before .before .before .before .before .before .before .before .before .before .before .before .before .before .before .before .before .before .before .before .args in
-    let l = c .before .before .before .before .before .before .before .before .before .before .before .before .loop2 in
-    let h = turn-ready (a .d) (a .commands) (a .budget) (a .memory .now) (a .image .now) (a .t4) (l .memory) (l .image) (l .taken) (l .left) (l .at) (l .inv) (c .before .before .before .before .before .before .before .before .before .before .before .loop2-test .taken) (c .before .before .before .before .before .before .before .before .fewer .result) (count (c .before .before .before .before .before .before .before .before)) .0 in
-    omega (arith, h, steps-small (getD (a .t4) (l .at) noRecord) (omega arith))
+add-taken c = let a = c .before .before .before .before .before .before .before .before .before .before .before .before .before .before .before .before .before .before .before .before .before .before .before .before .before .before .before .before .before .before .before .before .before .before .before .before .args in
+    let l = c .before .before .before .before .before .before .before .before .before .before .before .before .before .before .before .before .before .before .before .before .before .loop2 in
+    let h = turn-ready (drivesOf (a .l)) (a .commands) (a .budget) (lent (a .memory .now) (images (a .image0 .now) (a .image1 .now) (a .image2 .now) (a .image3 .now))) (a .t7) (lent (l .memory) (images (l .image0) (l .image1) (l .image2) (l .image3))) (l .taken) (l .left) (l .at) (l .inv) (c .before .before .before .before .before .before .before .before .before .before .before .before .before .before .before .before .before .before .before .before .loop2-test .taken) (c .before .before .before .before .before .before .before .before .before .before .before .before .before .before .before .before .before .fewer .result) (count (c .before .before .before .before .before .before .before .before .before .before .before .before .before .before .before .before .before)) .0 in
+    omega (arith, h, steps-small (getD (a .t7) (l .at) noRecord) (omega arith))
 
 mul-taken-2 : tie.Need-mul-taken-2 Inv-loop μ-loop Inv-loop2 μ-loop2
-mul-taken-2 c = omega (arith, few (c .before .before .before .before .before .before .before .before .before .before .before .before))
+mul-taken-2 c = omega (arith, few (c .before .before .before .before .before .before .before .before .before .before .before .before .before .before .before .before .before .before .before .before .before))
 
 array-write-taken-2 : tie.Need-array-write-taken-2 Inv-loop μ-loop Inv-loop2 μ-loop2
-array-write-taken-2 c = omega (arith, few (c .before .before .before .before .before .before .before .before .before .before .before .before), (c .before .before .before .before .before .before .before .before .before .before .before .before .loop2 .inv .long))
+array-write-taken-2 c = omega (arith, few (c .before .before .before .before .before .before .before .before .before .before .before .before .before .before .before .before .before .before .before .before .before), (c .before .before .before .before .before .before .before .before .before .before .before .before .before .before .before .before .before .before .before .before .before .loop2 .inv .long))
 
 cast-left : tie.Need-cast-left Inv-loop μ-loop Inv-loop2 μ-loop2
 cast-left c = search needs
 
 sub-left : tie.Need-sub-left Inv-loop μ-loop Inv-loop2 μ-loop2
-sub-left c = omega (arith, (c .before .before .before .before .before .before .before .before .fewer .ensures))
+sub-left c = omega (arith, (c .before .before .before .before .before .before .before .before .before .before .before .before .before .before .before .before .before .fewer .ensures))
 
 add-at : tie.Need-add-at Inv-loop μ-loop Inv-loop2 μ-loop2
-add-at c = omega arith
+add-at c = omega (arith, c .before .before .before .before .before .before .before .before .before .before .before .before .before .before .before .before .before .before .before .before .before .before .before .before .before .before .before .before .before .before .before .before .before .before .before .before .fits .commands, c .before .before .before .before .before .before .before .before .before .before .before .before .before .before .before .before .before .before .before .before .loop2-test .taken)
 
 loop2-less : tie.Need-loop2-less Inv-loop μ-loop Inv-loop2 μ-loop2
-loop2-less c = omega (arith, (c .before .before .before .before .before .before .before .before .before .before .before .loop2-test .taken))
+loop2-less c = omega (arith, (c .before .before .before .before .before .before .before .before .before .before .before .before .before .before .before .before .before .before .before .before .loop2-test .taken))
 
 loop2-again : tie.Need-loop2-again Inv-loop μ-loop Inv-loop2 μ-loop2
-loop2-again c = let a = c .before .before .before .before .before .before .before .before .before .before .before .before .before .before .before .before .before .before .before .before .before .args in
-    let l = c .before .before .before .before .before .before .before .before .before .before .before .before .loop2 in
-    let v = c .before .before .before .before .before .take-steps in
-    next-turn (a .d) (a .commands) (a .budget) (a .memory .now) (a .image .now) (a .t4) (l .memory) (l .image) (l .taken) (l .left) (l .at) (l .inv) (c .before .before .before .before .before .before .before .before .before .before .before .loop2-test .taken) (c .before .before .before .before .before .before .before .before .fewer .result) (count (c .before .before .before .before .before .before .before .before)) (v .last .0) (v .last .1 .0) (v .ensures) (v .kept .0) (v .kept .1 .0)
+loop2-again c = let a = c .before .before .before .before .before .before .before .before .before .before .before .before .before .before .before .before .before .before .before .before .before .before .before .before .before .before .before .before .before .before .before .before .before .before .before .before .args in
+    let l = c .before .before .before .before .before .before .before .before .before .before .before .before .before .before .before .before .before .before .before .before .before .loop2 in
+    let v = c .before .before .before .before .before .before .before .before .before .before .before .take-steps in
+    next-turn (drivesOf (a .l)) (a .commands) (a .budget) (lent (a .memory .now) (images (a .image0 .now) (a .image1 .now) (a .image2 .now) (a .image3 .now))) (a .t7) (lent (l .memory) (images (l .image0) (l .image1) (l .image2) (l .image3))) (l .taken) (l .left) (l .at) (l .inv) (c .before .before .before .before .before .before .before .before .before .before .before .before .before .before .before .before .before .before .before .before .loop2-test .taken) (c .before .before .before .before .before .before .before .before .before .before .before .before .before .before .before .before .before .fewer .result) (count (c .before .before .before .before .before .before .before .before .before .before .before .before .before .before .before .before .before)) (lent (v .last .0) (images (v .last .1 .0) (v .last .1 .1 .0) (v .last .1 .1 .1 .0) (v .last .1 .1 .1 .1 .0))) (v .ensures)
 
-sub-t53 : tie.Need-sub-t53 Inv-loop μ-loop Inv-loop2 μ-loop2
-sub-t53 c = omega (arith, (c .before .loop2 .inv .within))
+sub-t68 : tie.Need-sub-t68 Inv-loop μ-loop Inv-loop2 μ-loop2
+sub-t68 c = omega (arith, (c .before .loop2 .inv .within))
 
-same-length-3 : tie.Need-same-length-3 Inv-loop μ-loop Inv-loop2 μ-loop2
-same-length-3 c = (c .before .before .loop2 .inv .memory-length)
+same-length-6 : tie.Need-same-length-6 Inv-loop μ-loop Inv-loop2 μ-loop2
+same-length-6 c = c .before .before .loop2 .inv .as-long memory
 
-same-length-4 : tie.Need-same-length-4 Inv-loop μ-loop Inv-loop2 μ-loop2
-same-length-4 c = (c .before .before .loop2 .inv .image-length)
+same-length-7 : tie.Need-same-length-7 Inv-loop μ-loop Inv-loop2 μ-loop2
+same-length-7 c = c .before .before .loop2 .inv .as-long (disk 0)
+
+same-length-8 : tie.Need-same-length-8 Inv-loop μ-loop Inv-loop2 μ-loop2
+same-length-8 c = c .before .before .loop2 .inv .as-long (disk 1)
+
+same-length-9 : tie.Need-same-length-9 Inv-loop μ-loop Inv-loop2 μ-loop2
+same-length-9 c = c .before .before .loop2 .inv .as-long (disk 2)
+
+same-length-10 : tie.Need-same-length-10 Inv-loop μ-loop Inv-loop2 μ-loop2
+same-length-10 c = c .before .before .loop2 .inv .as-long (disk 3)
 
 returns-2 : tie.Need-returns-2 Inv-loop μ-loop Inv-loop2 μ-loop2
-returns-2 c = let a = c .before .before .before .before .before .before .before .before .before .before .before .args in
+returns-2 c = let a = c .before .before .before .before .before .before .before .before .before .before .before .before .before .before .before .before .before .args in
     let l = c .before .before .loop2 in
-    let s = stateOf (a .memory .now) (a .image .now) (a .t4) in
-    let f = c .before .before .before .before .before .before .before .before .loop in
-    let left = all-left (a .d) (a .commands) (a .memory .now) (a .image .now) (a .t4) (f .taken) (f .seen) (f .k) (f .inv) (c .before .before .before .before .before .before .before .loop-test .left) in
-    accepted-takes (a .d) (a .commands) (asWritten (a .d) (a .commands) (a .budget)) (a .length) s (a .budget - l .left) 0 _ (l .taken) _ (whole (c .before .before .before)) (goes (c .before .before .before)) (l .inv .long ∙ sym (l .inv .full))
-    (all-written (a .d) (a .commands) (a .budget) (a .memory .now) (a .image .now) (a .t4) (l .memory) (l .image) (l .taken) (l .left) (l .at) (l .inv) (c .before .loop2-test .left)) (ap (λ (x : ℕ). leb x (a .budget)) left ∙ finished-by-budget (a .d) (a .commands) (a .budget) (a .memory .now) (a .image .now) (a .t4) (l .memory) (l .image) (l .taken) (l .left) (l .at) (l .inv) (c .before .loop2-test .left))
+    let s = stateIn (lent (a .memory .now) (images (a .image0 .now) (a .image1 .now) (a .image2 .now) (a .image3 .now))) (a .t7) in
+    let f = c .before .before .before .before .before .before .before .before .before .before .before .loop in
+    let left = all-left (drivesOf (a .l)) (a .commands) (lent (a .memory .now) (images (a .image0 .now) (a .image1 .now) (a .image2 .now) (a .image3 .now))) (a .t7) (f .taken) (f .seen) (f .k) (f .inv) (c .before .before .before .before .before .before .before .before .before .before .loop-test .left) in
+    accepted-takes (drivesOf (a .l)) (a .commands) (asWritten (drivesOf (a .l)) (a .commands) (a .budget)) (a .length) s (a .budget - l .left) 0 _ (l .taken) _ (whole (c .before .before .before)) (goes (c .before .before .before)) (l .inv .long ∙ sym (l .inv .full))
+    (all-written (drivesOf (a .l)) (a .commands) (a .budget) (lent (a .memory .now) (images (a .image0 .now) (a .image1 .now) (a .image2 .now) (a .image3 .now))) (a .t7) (lent (l .memory) (images (l .image0) (l .image1) (l .image2) (l .image3))) (l .taken) (l .left) (l .at) (l .inv) (c .before .loop2-test .left)) (ap (λ (x : ℕ). leb x (a .budget)) left ∙ finished-by-budget (drivesOf (a .l)) (a .commands) (a .budget) (lent (a .memory .now) (images (a .image0 .now) (a .image1 .now) (a .image2 .now) (a .image3 .now))) (a .t7) (lent (l .memory) (images (l .image0) (l .image1) (l .image2) (l .image3))) (l .taken) (l .left) (l .at) (l .inv) (c .before .loop2-test .left))
 
 pub written-taken-spec : {M : Type 1} → statement M
 written-taken-spec =
@@ -217,6 +237,9 @@ written-taken-spec =
     refused-requires
     same-length
     same-length-2
+    same-length-3
+    same-length-4
+    same-length-5
     returns
     loop2-holds
     mul-r-2
@@ -232,7 +255,10 @@ written-taken-spec =
     add-at
     loop2-less
     loop2-again
-    sub-t53
-    same-length-3
-    same-length-4
+    sub-t68
+    same-length-6
+    same-length-7
+    same-length-8
+    same-length-9
+    same-length-10
     returns-2)

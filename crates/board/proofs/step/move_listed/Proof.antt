@@ -2,7 +2,9 @@
 use Prim.Native.Nat.{_+_, _*_}
 use native.Mathlib.Omega.{arith}
 use mathlib.Core.List.{map}
-use Rattle.meaning.specs.Store.{lent}
+use lib.ListN.{length}
+use Rattle.board.specs.OneUnit.{onUnit}
+use Rattle.board.proofs.Edge.{unit-disk}
 use Rattle.meaning.specs.Sectors.{sectorBytes}
 use Rattle.meaning.specs.Links.{rangeOf}
 use Rattle.meaning.specs.Command.{linksOf}
@@ -39,7 +41,7 @@ move-pieces-requires : tie.Need-move-pieces-requires
 move-pieces-requires c κs = let a = c .before .before .before .before .before .before .before .before .args in
     let p = c .before .before .before .before .before .before .before .before .pre in
     let y = p .0 .sectors (p .1) in
-    (links-inside (a .n) (a .r) (lent (a .memory .now) (a .image .now)) (p .2) (p .0) (p .1), omega arith)
+    (links-inside (a .n) (a .r) (length (a .memory .now)) (length (a .image .now)) (p .2) (p .0) (p .1), omega arith)
 
 same-length : tie.Need-same-length
 same-length c = search needs
@@ -48,11 +50,12 @@ same-length-2 : tie.Need-same-length-2
 same-length-2 c = search needs
 
 returns : tie.Need-returns
-returns c = let a = c .before .before .before .before .before .before .before .before .before .before .before .before .before .args in
+returns c s = let a = c .before .before .before .before .before .before .before .before .before .before .before .before .before .args in
     let p = c .before .before .before .before .before .before .before .before .before .before .before .before .before .pre in
-    c .before .before .before .before .move-pieces .ensures
-    ∙ ap (λ (b : Bool). windowMoved b (onDisk (a .r)) (map rangeOf (linksOf (a .r))) 0 (sectorBytes * a .r .taken) (sectorBytes * a .r .taken + sectorBytes * a .n) (lent (a .memory .now) (a .image .now))) (c .before .before .before .before .before .before .before .before .before .before .reads .ensures)
-    ∙ sym (listed-moved (a .n) (a .r) (lent (a .memory .now) (a .image .now)) (p .2) (p .0) (p .1))
+    let z = onUnit (a .r .unit) (a .memory .now) (a .image .now) s in
+    c .before .before .before .before .move-pieces .ensures (a .r .unit) s
+    ∙ ap (λ (b : Bool). windowMoved (a .r .unit) b (onDisk (a .r)) (map rangeOf (linksOf (a .r))) 0 (sectorBytes * a .r .taken) (sectorBytes * a .r .taken + sectorBytes * a .n) z) (c .before .before .before .before .before .before .before .before .before .before .reads .ensures)
+    ∙ sym (listed-moved (a .n) (a .r) z (p .2) (rw (unit-disk (a .r .unit) (a .memory .now) (a .image .now) s) (p .0)) (p .1))
 
 pub move-listed-spec : {M : Type 1} → statement M
 move-listed-spec =

@@ -14,8 +14,8 @@ before-requires-2 : tie.Need-before-requires-2
 before-requires-2 c κs = search needs
 
 returns : tie.Need-returns
-returns c = let a = c .before .before .before .before .before .before .args in
-    piece-nothing (a .disk) (a .b) (a .lo) (a .hi) (a .x) (a .memory .now) (a .image .now) (c .before .before .before2 .result) (c .before .before3 .result) (c .before .before .before2 .ensures) (c .before .before3 .ensures) (a .reading) (c .if1 .taken)
+returns c u s = let a = c .before .before .before .before .before .before .args in
+    piece-nothing (a .disk) (a .b) (a .lo) (a .hi) (a .x) (a .memory .now) (a .image .now) (c .before .before .before2 .result) (c .before .before3 .result) (c .before .before .before2 .ensures) (c .before .before3 .ensures) u s (a .reading) (c .if1 .taken)
 
 cast-in-memory : tie.Need-cast-in-memory
 cast-in-memory c = search needs
@@ -42,8 +42,8 @@ same-length-2 : tie.Need-same-length-2
 same-length-2 c = search needs
 
 returns-2 : tie.Need-returns-2
-returns-2 c = let a = c .before .before .before .before .before .before .before .before .before .before .before .before .before .args in
-    piece-read (a .disk) (a .b) (a .lo) (a .hi) (a .x) (a .memory .now) (a .image .now) (c .before .before .before .before .before .before .before .before .before .before2 .result) (c .before .before .before .before .before .before .before .before .before3 .result) (c .before .before .before .before .before .before .before .before .before .before2 .ensures) (c .before .before .before .before .before .before .before .before .before3 .ensures) (a .reading) (c .before .before .before .before .before .if2 .taken) _ (c .before .before .copy-part .ensures)
+returns-2 c u s = let a = c .before .before .before .before .before .before .before .before .before .before .before .before .before .args in
+    piece-read (a .disk) (a .b) (a .lo) (a .hi) (a .x) (a .memory .now) (a .image .now) (c .before .before .before .before .before .before .before .before .before .before2 .result) (c .before .before .before .before .before .before .before .before .before3 .result) (c .before .before .before .before .before .before .before .before .before .before2 .ensures) (c .before .before .before .before .before .before .before .before .before3 .ensures) u s (a .reading) (c .before .before .before .before .before .if2 .taken) _ (c .before .before .copy-part .ensures)
 
 sub-copy-part-2 : tie.Need-sub-copy-part-2
 sub-copy-part-2 c = search needs
@@ -58,8 +58,8 @@ same-length-4 : tie.Need-same-length-4
 same-length-4 c = search needs
 
 returns-3 : tie.Need-returns-3
-returns-3 c = let a = c .before .before .before .before .before .before .before .before .before .before .before .before .before .args in
-    piece-written (a .disk) (a .b) (a .lo) (a .hi) (a .x) (a .memory .now) (a .image .now) (c .before .before .before .before .before .before .before .before .before .before2 .result) (c .before .before .before .before .before .before .before .before .before3 .result) (c .before .before .before .before .before .before .before .before .before .before2 .ensures) (c .before .before .before .before .before .before .before .before .before3 .ensures) (a .reading) (c .before .before .before .before .before .if2 .left) _ (c .before .before .copy-part2 .ensures)
+returns-3 c u s = let a = c .before .before .before .before .before .before .before .before .before .before .before .before .before .args in
+    piece-written (a .disk) (a .b) (a .lo) (a .hi) (a .x) (a .memory .now) (a .image .now) (c .before .before .before .before .before .before .before .before .before .before2 .result) (c .before .before .before .before .before .before .before .before .before3 .result) (c .before .before .before .before .before .before .before .before .before .before2 .ensures) (c .before .before .before .before .before .before .before .before .before3 .ensures) u s (a .reading) (c .before .before .before .before .before .if2 .left) _ (c .before .before .copy-part2 .ensures)
 
 pub move-piece-spec : {M : Type 1} → statement M
 move-piece-spec =

@@ -2,7 +2,7 @@
 use mathlib.Core.Path.{sym, ap, _∙_}
 use mathlib.Core.List.{List}
 use Prim.Native.Nat.{ℕ}
-use Rattle.meaning.specs.Store.{lent}
+use Rattle.board.specs.OneUnit.{onUnit}
 use Rattle.meaning.proofs.Rows.{or-first, or-second}
 use Rattle.board.proofs.Moving.{read-moved, write-moved, none-moved, room-on-disk, room-in-memory}
 use borrow.Author.Needs.{needs}
@@ -46,10 +46,10 @@ same-length-2 : tie.Need-same-length-2
 same-length-2 c = search needs
 
 returns : tie.Need-returns
-returns c = let a = c .before .before .before .before .before .before .before .before .before .before .before .before .args in
+returns c s = let a = c .before .before .before .before .before .before .before .before .before .before .before .before .args in
     let p = c .before .before .before .before .before .before .before .before .before .before .before .before .pre in
     let reading = sym (c .before .before .before .before .before .before .reads .ensures) ∙ c .before .before .before .before .before .if1 .taken in
-    ap (λ (x : List ℕ). lent x (a .image .now)) (c .before .before .copy-sectors .ensures) ∙ sym (read-moved (a .n) (a .r) (a .memory .now) (a .image .now) (p .2) (p .1) (or-first _ _ reading) reading)
+    ap (λ (x : List ℕ). onUnit (a .r .unit) x (a .image .now) s) (c .before .before .copy-sectors .ensures) ∙ sym (read-moved (a .n) (a .r) (a .memory .now) (a .image .now) (p .2) (p .1) (or-first _ _ reading) s reading)
 
 writes-requires : tie.Need-writes-requires
 writes-requires c κs = search needs
@@ -67,15 +67,15 @@ same-length-4 : tie.Need-same-length-4
 same-length-4 c = search needs
 
 returns-2 : tie.Need-returns-2
-returns-2 c = let a = c .before .before .before .before .before .before .before .before .before .before .before .before .before .before .args in
+returns-2 c s = let a = c .before .before .before .before .before .before .before .before .before .before .before .before .before .before .args in
     let p = c .before .before .before .before .before .before .before .before .before .before .before .before .before .before .pre in
     let reading = sym (c .before .before .before .before .before .before .before .before .reads .ensures) ∙ c .before .before .before .before .before .before .before .if1 .left in
     let writing = sym (c .before .before .before .before .before .before .writes .ensures) ∙ c .before .before .before .before .before .if2 .taken in
-    ap (λ (x : List ℕ). lent (a .memory .now) x) (c .before .before .copy-sectors2 .ensures) ∙ sym (write-moved (a .n) (a .r) (a .memory .now) (a .image .now) (p .2) (p .1) (or-second _ _ reading ∙ writing) reading)
+    ap (λ (x : List ℕ). onUnit (a .r .unit) (a .memory .now) x s) (c .before .before .copy-sectors2 .ensures) ∙ sym (write-moved (a .n) (a .r) (a .memory .now) (a .image .now) (p .2) (p .1) (or-second _ _ reading ∙ writing) s reading)
 
 returns-3 : tie.Need-returns-3
-returns-3 c = let a = c .before .before .before .before .before .before .before .before .before .args in
-    sym (none-moved (a .n) (a .r) (lent (a .memory .now) (a .image .now)) (sym (c .before .before .before .reads .ensures) ∙ c .before .before .if1 .left) (sym (c .before .writes .ensures) ∙ c .if2 .left))
+returns-3 c s = let a = c .before .before .before .before .before .before .before .before .before .args in
+    sym (none-moved (a .n) (a .r) (onUnit (a .r .unit) (a .memory .now) (a .image .now) s) (sym (c .before .before .before .reads .ensures) ∙ c .before .before .if1 .left) (sym (c .before .writes .ensures) ∙ c .if2 .left))
 
 pub move-plain-spec : {M : Type 1} → statement M
 move-plain-spec =

@@ -1,6 +1,6 @@
 -- `board::step::move_sectors` meets its contract: whether there is a list decides how they are moved.
 use mathlib.Core.Path.{sym, _∙_}
-use Rattle.meaning.specs.Store.{lent}
+use Rattle.board.specs.OneUnit.{onUnit}
 use Rattle.meaning.proofs.Rows.{or-false}
 use Rattle.board.proofs.Moving.{none-moved}
 use borrow.Author.Needs.{needs}
@@ -35,9 +35,9 @@ returns-2 : tie.Need-returns-2
 returns-2 c = search needs
 
 returns-3 : tie.Need-returns-3
-returns-3 c = let a = c .before .before .before .before .before .before .args in
+returns-3 c s = let a = c .before .before .before .before .before .before .args in
     let still = or-false _ _ (sym (c .before .transfers .ensures) ∙ c .if2 .left) in
-    sym (none-moved (a .n) (a .r) (lent (a .memory .now) (a .image .now)) (still .0) (still .1))
+    sym (none-moved (a .n) (a .r) (onUnit (a .r .unit) (a .memory .now) (a .image .now) s) (still .0) (still .1))
 
 pub move-sectors-spec : {M : Type 1} → statement M
 move-sectors-spec =

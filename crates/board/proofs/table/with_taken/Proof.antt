@@ -1,6 +1,6 @@
 -- `board::table::with_taken` meets its contract: one field is stored anew.
 use mathlib.Core.Path.{refl}
-use Rattle.board.specs.Changes.{withTaken}
+use Rattle.meaning.specs.Step.{withTaken}
 use Rattle.board.proofs.table.with_taken.Statement.{statement}
 use Rattle.board.proofs.table.with_taken.Tie as tie
 

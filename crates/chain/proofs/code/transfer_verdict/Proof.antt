@@ -1,7 +1,6 @@
 -- `chain::code::transfer_verdict` meets its contract. At each place the rows before it were passed: what is left of the table decides.
 use mathlib.Core.Path.{_≡_, sym, ap, _∙_}
 use Prim.Native.Nat.{ℕ}
-use mathlib.Core.Bool.{not}
 use lib.ListN.{drop}
 use borrow.Author.Needs.{needs}
 use borrow.Author.Tests.{lt-ltb, le-ltb, eq-eqb, ne-eqb}
@@ -41,7 +40,7 @@ abbrev entry-7 : tie.Else7 → tie.Start
 entry-7 c = entry-6 (c .before .before)
 
 passed-1 : (c : tie.Else1) → Passed 1 (entry-1 c)
-passed-1 c = passed _ _ (ap not (eq-eqb _ _ (c .if1 .left)))
+passed-1 c = passed _ _ (c .if1 .left)
 
 passed-2 : (c : tie.Else2) → Passed 2 (entry-2 c)
 passed-2 c = passed-1 (c .before .before) ∙ passed _ _ (ne-eqb _ _ (c .if2 .left))
@@ -65,7 +64,7 @@ fixed-requires : tie.Need-fixed-requires
 fixed-requires c κs = search needs
 
 returns : tie.Need-returns
-returns c = c .fixed .ensures ∙ sym (stopped _ _ (ap not (ne-eqb _ _ (c .before .if1 .taken))))
+returns c = c .fixed .ensures ∙ sym (stopped _ _ (c .before .if1 .taken))
 
 fixed-requires-2 : tie.Need-fixed-requires-2
 fixed-requires-2 c κs = search needs

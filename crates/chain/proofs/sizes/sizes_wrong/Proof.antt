@@ -9,12 +9,12 @@ returns : tie.Need-returns
 unfolding storeWrong
 returns c = simp (lt-ltb _ _ (c .if1 .taken))
 
-image-right-requires : tie.Need-image-right-requires
-image-right-requires c κs = search needs
+images-wrong-requires : tie.Need-images-wrong-requires
+images-wrong-requires c κs = search needs
 
 returns-2 : tie.Need-returns-2
 unfolding storeWrong
-returns-2 c = simp (le-ltb _ _ (c .before .if1 .left), c .image-right .ensures)
+returns-2 c = simp (le-ltb _ _ (c .before .if1 .left), c .images-wrong .ensures (c .before .before .before .before .before .before .before .args .memory .now))
 
 pub sizes-wrong-spec : {M : Type 1} → statement M
-sizes-wrong-spec = tie.close (tie.spec returns image-right-requires returns-2)
+sizes-wrong-spec = tie.close (tie.spec returns images-wrong-requires returns-2)

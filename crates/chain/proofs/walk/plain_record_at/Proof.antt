@@ -1,5 +1,6 @@
 -- `chain::walk::plain_record_at` meets its contract: each field is what its call ensures, of what is copied.
 use borrow.Author.Needs.{needs}
+use Rattle.meaning.specs.Drives.{drivesOf}
 use Rattle.chain.proofs.Coding.{plain-made}
 use Rattle.chain.proofs.walk.plain_record_at.Statement.{statement}
 use Rattle.chain.proofs.walk.plain_record_at.Tie as tie
@@ -9,6 +10,9 @@ no-links-requires c κs = search needs
 
 copied-requires : tie.Need-copied-requires
 copied-requires c κs = search needs
+
+drive-of-requires : tie.Need-drive-of-requires
+drive-of-requires c κs = search needs
 
 early-verdict-requires : tie.Need-early-verdict-requires
 early-verdict-requires c κs = search needs
@@ -23,10 +27,11 @@ returns : tie.Need-returns
 returns c =
     let v = c .before in
     let e = v .before in
-    let k = e .before in
+    let o = e .before in
+    let k = o .before in
     let a = k .before .before .before .args in
-    plain-made (a .memory .now) (a .at) (a .d) (k .copied .result) (e .early-verdict .result) (c .first-sector .result) (k .before .no-links .result) (v .final-verdict .result)
-    (k .copied .ensures) (e .early-verdict .ensures) (k .before .no-links .ensures) (c .first-sector .ensures) (v .final-verdict .ensures)
+    plain-made (a .memory .now) (a .at) (drivesOf (a .l)) (k .copied .result) (o .drive-of .result) (e .early-verdict .result) (c .first-sector .result) (k .before .no-links .result) (v .final-verdict .result)
+    (k .copied .ensures) (o .drive-of .ensures) (e .early-verdict .ensures) (k .before .no-links .ensures) (c .first-sector .ensures) (v .final-verdict .ensures)
 
 pub plain-record-at-spec : {M : Type 1} → statement M
 plain-record-at-spec =
@@ -34,6 +39,7 @@ plain-record-at-spec =
     (tie.spec
     no-links-requires
     copied-requires
+    drive-of-requires
     early-verdict-requires
     final-verdict-requires
     first-sector-requires

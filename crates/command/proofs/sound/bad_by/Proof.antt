@@ -30,13 +30,16 @@ unfolding badIn stepsOf
 returns-2 c = let moving = sym (c .before .before .before .before .transfers .ensures) ∙ (c .before .before .before .if2 .taken) in
     simp (le-ltb _ _ (c .before .before .before .before .before .if1 .left), moving, lt-ltb _ _ (c .if3 .taken))
 
+drive-of-requires : tie.Need-drive-of-requires
+drive-of-requires c κs = search needs
+
 bad-transfer-requires : tie.Need-bad-transfer-requires
-bad-transfer-requires c κs = (sym (c .before .before .before .before .transfers .ensures) ∙ (c .before .before .before .if2 .taken), c .before .before .before .before .before .before .before .pre)
+bad-transfer-requires c κs = (sym (c .before .before .before .before .before .transfers .ensures) ∙ (c .before .before .before .before .if2 .taken), c .before .before .before .before .before .before .before .before .pre)
 
 returns-3 : tie.Need-returns-3
 unfolding badIn stepsOf
-returns-3 c = let moving = sym (c .before .before .before .before .before .transfers .ensures) ∙ (c .before .before .before .before .if2 .taken) in
-    (c .bad-transfer .ensures) ∙ simp (le-ltb _ _ (c .before .before .before .before .before .before .if1 .left), moving, le-ltb _ _ (c .before .if3 .left))
+returns-3 c = let moving = sym (c .before .before .before .before .before .before .transfers .ensures) ∙ (c .before .before .before .before .before .if2 .taken) in
+    (c .bad-transfer .ensures) ∙ simp (c .before .drive-of .ensures, le-ltb _ _ (c .before .before .before .before .before .before .before .if1 .left), moving, le-ltb _ _ (c .before .before .if3 .left))
 
 returns-4 : tie.Need-returns-4
 unfolding badIn stepsOf
@@ -53,6 +56,7 @@ bad-by-spec =
     transfers-requires
     cast-if3
     returns-2
+    drive-of-requires
     bad-transfer-requires
     returns-3
     returns-4)

@@ -26,6 +26,7 @@ returns c = let a = c .before .before .before .before .args in
       sector = a .r .sector;
       sectors = c .before .before .before .moved .ensures j;
       steps = c .before .before .steps-of .ensures j;
+      unit = a .r .unit;
       reads = c .before .reads .ensures j;
       writes = c .writes .ensures j;
     }

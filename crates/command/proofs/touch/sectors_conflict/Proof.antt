@@ -3,7 +3,7 @@ use mathlib.Core.Path.{sym, ap₂, _∙_}
 use mathlib.Core.Bool.{Bool, _||_}
 use Rattle.meaning.proofs.Rows.{and-first, and-second}
 use Prim.Native.Nat.{ℕ}
-use Rattle.meaning.specs.Ranges.{crosses}
+use Rattle.meaning.specs.Ranges.{sectorsOf, overlap}
 use borrow.Author.Needs.{needs}
 use Rattle.command.proofs.touch.sectors_conflict.Statement.{statement}
 use Rattle.command.proofs.touch.sectors_conflict.Tie as tie
@@ -20,12 +20,12 @@ moved-requires c κs = search needs
 moved-requires-2 : tie.Need-moved-requires-2
 moved-requires-2 c κs = search needs
 
-crosses-requires : tie.Need-crosses-requires
-crosses-requires c κs = search needs
+sectors-cross-requires : tie.Need-sectors-cross-requires
+sectors-cross-requires c κs = search needs
 
 returns : tie.Need-returns
 returns c = let a = c .before .before .before .before .before .before .args in
-    c .crosses .ensures ∙ ap₂ (λ (x y : ℕ). crosses (a .r .sector) x (a .s .sector) y) (c .before .before .moved .ensures) (c .before .moved2 .ensures)
+    c .sectors-cross .ensures ∙ ap₂ (λ (x y : ℕ). overlap (sectorsOf (a .r .unit) (a .r .sector) x) (sectorsOf (a .s .unit) (a .s .sector) y)) (c .before .before .moved .ensures) (c .before .moved2 .ensures)
     ∙ sym (and-second _ _ (ap₂ (λ (x y : Bool). x || y) (sym (c .before .before .before .before .before .writes .ensures)) (sym (c .before .before .before .before .writes2 .ensures)) ∙ c .before .before .before .if1 .taken))
 
 returns-2 : tie.Need-returns-2
@@ -39,6 +39,6 @@ sectors-conflict-spec =
     writes-requires-2
     moved-requires
     moved-requires-2
-    crosses-requires
+    sectors-cross-requires
     returns
     returns-2)

@@ -35,8 +35,8 @@ slice-aggregate-run-chain c = search needs
 slice-aggregate-run-chain-2 : tie.Need-slice-aggregate-run-chain-2
 slice-aggregate-run-chain-2 c = search needs
 
-bench-drive-requires : tie.Need-bench-drive-requires
-bench-drive-requires c κs = search needs
+bench-drives-requires : tie.Need-bench-drives-requires
+bench-drives-requires c κs = search needs
 
 run-chain-requires : tie.Need-run-chain-requires
 run-chain-requires c κs = search needs
@@ -45,7 +45,7 @@ returns-2 : tie.Need-returns-2
 returns-2 c =
     let b = c .before .before .before .before .before .before .before .before .before .before .before .before .before .before .before .args .bytes .now in
     let is-deck = sym (c .before .before .before .before .before .before .before .before .before .before .before .before .before .is-deck .ensures) ∙ not-false _ (c .before .before .before .before .before .before .before .before .before .before .before .before .if1 .left) in
-    reports-deck b _ _ _ (c .before .before .run-chain .result) is-deck (c .before .before .before .before .before .before .before .before .before .before .lay .ensures) (c .before .before .before .before .before .before .before .fill-image .ensures) (c .before .before .before .bench-drive .ensures) (c .before .before .run-chain .ensures)
+    reports-deck b _ _ _ (c .before .before .run-chain .result) is-deck (c .before .before .before .before .before .before .before .before .before .before .lay .ensures) (c .before .before .before .before .before .before .before .fill-image .ensures) (c .before .before .before .bench-drives .ensures) (c .before .before .run-chain .ensures)
 
 pub run-deck-spec : {M : Type 1} → statement M
 run-deck-spec =
@@ -59,6 +59,6 @@ run-deck-spec =
     fill-image-requires
     slice-aggregate-run-chain
     slice-aggregate-run-chain-2
-    bench-drive-requires
+    bench-drives-requires
     run-chain-requires
     returns-2)

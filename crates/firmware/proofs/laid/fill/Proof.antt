@@ -42,13 +42,14 @@ use denote.Triple.Table.{cited}
 use denote.Triple.Walked.{says, needs, Stays, gave-slice, stay-dropped, walkOf, goes-gave-slice, goes-dropped, ends-at}
 use denote.Exit.{yes}
 use denote.Signature.{plain}
-use Rattle.meaning.specs.declared.Drive.{Drive}
+use Rattle.meaning.specs.declared.LentDrives.{LentDrives}
+use Rattle.meaning.specs.Drives.{drivesOf}
 use Rattle.meaning.specs.declared.Record.{Record}
 use Rattle.meaning.specs.State.{mostCommands}
 use Rattle.meaning.specs.Fields.{sgm}
 use Rattle.meaning.specs.Command.{noRecord}
-use Rattle.meaning.proofs.Drive as Dr
-use Rattle.meaning.proofs.Drive.Laws as Dr′
+use Rattle.meaning.proofs.LentDrives as Dr
+use Rattle.meaning.proofs.LentDrives.Laws as Dr′
 use Rattle.iopb.proofs.sgm.Symbol as sgm-def
 use Rattle.iopb.proofs.sgm.Symbol.{name as #sgm}
 use Rattle.iopb.proofs.sgm.Met as sgm-thm
@@ -100,12 +101,12 @@ failed : (y : Bool) → Holds (not y) → y ≡ false
 failed true h = absurd h
 failed false h = refl
 
-module _ {M : Type 1} (𝓤 : URA M) (H : Heap 𝓤) (A : Atoms 𝓤) (W : Given 𝓤 H A) (mem : Memory → SProp 𝓤) (run : Routine → Fun 𝓤) (κ₀ κ₁ : Lft) (q₀ q₁ : Share) (m : RefT (List ℕ)) (d : Drive) (addresses : List ℕ) (n : ℕ)
+module _ {M : Type 1} (𝓤 : URA M) (H : Heap 𝓤) (A : Atoms 𝓤) (W : Given 𝓤 H A) (mem : Memory → SProp 𝓤) (run : Routine → Fun 𝓤) (κ₀ κ₁ : Lft) (q₀ q₁ : Share) (m : RefT (List ℕ)) (d : LentDrives) (addresses : List ℕ) (n : ℕ)
     (b o : ℕ) (γ : GName) (xs : List Record) (m-room : Room u8 (length (m .now))) (is-d : Is Dr.the-row d (LL.vals Dr.the-type Dr′.the-laws d)) (are : Is Numbers addresses (mach addresses ∷ [])) (fits : n < 2 ^ 64)
     (room-for : Room R (length xs)) (within : (n ≤ length xs) × (n ≤ mostCommands)) where
   -- the lent table with its first k records made
   abbrev laid : ℕ → List Record
-  laid k = filledAt (m .now) d k addresses xs
+  laid k = filledAt (m .now) (drivesOf d) k addresses xs
 
   few : n ≤ mostCommands
   few = within .1
@@ -121,7 +122,7 @@ module _ {M : Type 1} (𝓤 : URA M) (H : Heap 𝓤) (A : Atoms 𝓤) (W : Given
   inside t h = let w = within .0 in omega arith
 
   long : (k : ℕ) → k ≤ n → length (laid k) ≡ length xs
-  long k h = let e = many in let w = few in let w′ = within .0 in length-filled (m .now) d addresses xs k (omega arith) (omega arith)
+  long k h = let e = many in let w = few in let w′ = within .0 in length-filled (m .now) (drivesOf d) addresses xs k (omega arith) (omega arith)
 
   in-table : (t : Turn n) → t .k < n → t .k < length (laid (t .k))
   in-table t h = let e = long (t .k) (t .within) in let i = inside t h in omega arith
@@ -141,7 +142,7 @@ module _ {M : Type 1} (𝓤 : URA M) (H : Heap 𝓤) (A : Atoms 𝓤) (W : Given
   abbrev sv : Val
   sv = sliceVal (b, o) (length xs)
 
-  abbrev args : RefT (List ℕ) × (Drive × (List ℕ × (ℕ × (RefT (List Record) × Unit {0}))))
+  abbrev args : RefT (List ℕ) × (LentDrives × (List ℕ × (ℕ × (RefT (List Record) × Unit {0}))))
   args = (m, (d, (addresses, (n, (x, tt)))))
 
   abbrev vals : List Val × (List Val × (List Val × (List Val × (List Val × Unit {0}))))
@@ -243,7 +244,7 @@ module _ {M : Type 1} (𝓤 : URA M) (H : Heap 𝓤) (A : Atoms 𝓤) (W : Given
         move ! (2 ∷ []) $ elem-out ! R (Is R) (shows 𝓤 H A R) recordVals (a-record .tells) fullShare to k noRecord b o (in-table t h) (λ _.
         assigns-last ! (of-opd ! (load ! (from ! (stop !)) (look ! (pos 9 15) refl))) (from ! (hop ! (look ! (pos 9 17) refl) (stop !))) (store-raw ! 0 refl (a-record .lawful 𝓤 H A W .typed r _ is-r .0)) $
         move ! (1 ∷ []) $ drop ! $ owned ! R (Is R) (a-record .makes 𝓤 H A W) r (v ∷ []) is-r $ move ! (1 ∷ 0 ∷ []) $ elem-put ! R fullShare to k r (v ∷ []) b o (in-table t h) $
-        rewrite ! 0 (λ (ys : List Record). ‵ (row R fullShare ys b o)) (ap (set to k) e-r ∙ filled-next (m .now) d addresses xs k (noted t h) (inside t h)) refl $
+        rewrite ! 0 (λ (ys : List Record). ‵ (row R fullShare ys b o)) (ap (set to k) e-r ∙ filled-next (m .now) (drivesOf d) addresses xs k (noted t h) (inside t h)) refl $
         move ! (0 ∷ 3 ∷ 4 ∷ 5 ∷ 6 ∷ 2 ∷ 1 ∷ []) $ empties ! 7 (since 8 E) refl $ exec ! (𝓣 .C) (𝓣 .Λ) E counting (anyQ (afterTurn 𝓤 H X Left)) $ counted t h X on)))
         (λ no.
         move ! (1 ∷ []) $ makes 𝓤 H A plainRecordAt W κ₀ q₀ m d is-d a (is-a .1) ! (fmOf 𝓤 H (W .laws) 𝓣) known-plain
@@ -255,7 +256,7 @@ module _ {M : Type 1} (𝓤 : URA M) (H : Heap 𝓤) (A : Atoms 𝓤) (W : Given
         move ! (2 ∷ []) $ elem-out ! R (Is R) (shows 𝓤 H A R) recordVals (a-record .tells) fullShare to k noRecord b o (in-table t h) (λ _.
         assigns-last ! (of-opd ! (load ! (from ! (stop !)) (look ! (pos 9 18) refl))) (from ! (hop ! (look ! (pos 9 20) refl) (stop !))) (store-raw ! 0 refl (a-record .lawful 𝓤 H A W .typed r _ is-r .0)) $
         move ! (1 ∷ []) $ drop ! $ owned ! R (Is R) (a-record .makes 𝓤 H A W) r (v ∷ []) is-r $ move ! (1 ∷ 0 ∷ []) $ elem-put ! R fullShare to k r (v ∷ []) b o (in-table t h) $
-        rewrite ! 0 (λ (ys : List Record). ‵ (row R fullShare ys b o)) (ap (set to k) (e-r ∙ plain-is (m .now) d a (sym (ap (λ (y : ℕ). eqb y 1) e-s) ∙ failed (eqb s 1) no)) ∙ filled-next (m .now) d addresses xs k (noted t h) (inside t h)) refl $
+        rewrite ! 0 (λ (ys : List Record). ‵ (row R fullShare ys b o)) (ap (set to k) (e-r ∙ plain-is (m .now) (drivesOf d) a (sym (ap (λ (y : ℕ). eqb y 1) e-s) ∙ failed (eqb s 1) no)) ∙ filled-next (m .now) (drivesOf d) addresses xs k (noted t h) (inside t h)) refl $
         move ! (0 ∷ 3 ∷ 4 ∷ 5 ∷ 6 ∷ 2 ∷ 1 ∷ []) $ empties ! 7 (since 8 E) refl $ exec ! (𝓣 .C) (𝓣 .Λ) E counting (anyQ (afterTurn 𝓤 H X Left)) $ counted t h X on)))))
 
     looped : Sq W (I first-turn) (runs (𝓣 .C) (𝓣 .Λ) E body.t-3 (atRet E Post))

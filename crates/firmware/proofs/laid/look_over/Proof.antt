@@ -41,13 +41,14 @@ use denote.Triple.Table.{cited}
 use denote.Triple.Walked.{says, needs, Stays, stay-dropped, walkOf, goes-dropped, ends-at}
 use denote.Exit.{yes}
 use denote.Signature.{plain}
-use Rattle.meaning.specs.declared.Drive.{Drive}
+use Rattle.meaning.specs.declared.LentDrives.{LentDrives}
+use Rattle.meaning.specs.Drives.{drivesOf}
 use Rattle.meaning.specs.declared.Record.{Record}
 use Rattle.meaning.specs.State.{mostCommands}
 use Rattle.meaning.specs.Command.{noRecord}
 use Rattle.meaning.specs.Touch.{conflict}
-use Rattle.meaning.proofs.Drive as Dr
-use Rattle.meaning.proofs.Drive.Laws as Dr′
+use Rattle.meaning.proofs.LentDrives as Dr
+use Rattle.meaning.proofs.LentDrives.Laws as Dr′
 use Rattle.meaning.proofs.Record as Rec
 use Rattle.meaning.proofs.Record.Laws as Rec′
 use Rattle.command.specs.declared.touch.Footprint.{Footprint}
@@ -110,7 +111,7 @@ module _ {M : Type 1} (𝓤 : URA M) (H : Heap 𝓤) (A : Atoms 𝓤) (mem : Mem
   abbrev Meets : Contract 𝓤
   Meets = Meant 𝓤 H A meets.ended (meets.clauses 𝓤 H A mem run)
 
-module _ {M : Type 1} (𝓤 : URA M) (H : Heap 𝓤) (A : Atoms 𝓤) (W : Given 𝓤 H A) (mem : Memory → SProp 𝓤) (run : Routine → Fun 𝓤) (κ : Lft) (q : Share) (b o : ℕ) (γ : GName) (xs : List Record) (size : ℕ) (d : Drive) (n p : ℕ)
+module _ {M : Type 1} (𝓤 : URA M) (H : Heap 𝓤) (A : Atoms 𝓤) (W : Given 𝓤 H A) (mem : Memory → SProp 𝓤) (run : Routine → Fun 𝓤) (κ : Lft) (q : Share) (b o : ℕ) (γ : GName) (xs : List Record) (size : ℕ) (d : LentDrives) (n p : ℕ)
     (room-for : Room R (length xs)) (size-fits : size < 2 ^ 64) (is-d : Is Dr.the-row d (LL.vals Dr.the-type Dr′.the-laws d)) (n-fits : n < 2 ^ 64) (p-fits : p < 2 ^ 64)
     (within : (mostCommands ≤ length xs) × ((n ≤ mostCommands) × (p < mostCommands))) where
   few : n ≤ mostCommands
@@ -131,7 +132,7 @@ module _ {M : Type 1} (𝓤 : URA M) (H : Heap 𝓤) (A : Atoms 𝓤) (W : Given
 
   -- what is seen of the first k records
   abbrev sight : ℕ → Sight
-  sight k = sightOf size d k p xs
+  sight k = sightOf size (drivesOf d) k p xs
 
   abbrev x : RefT (List Record)
   x = record { ptr = (b, o); name = γ; now = xs }
@@ -142,7 +143,7 @@ module _ {M : Type 1} (𝓤 : URA M) (H : Heap 𝓤) (A : Atoms 𝓤) (W : Given
   abbrev dv : Val
   dv = LL.val Dr.the-type Dr′.the-laws d
 
-  abbrev args : RefT (List Record) × (ℕ × (Drive × (ℕ × (ℕ × Unit {0}))))
+  abbrev args : RefT (List Record) × (ℕ × (LentDrives × (ℕ × (ℕ × Unit {0}))))
   args = (x, (size, (d, (n, (p, tt)))))
 
   abbrev vals : List Val × (List Val × (List Val × (List Val × (List Val × Unit {0}))))
@@ -238,13 +239,13 @@ module _ {M : Type 1} (𝓤 : URA M) (H : Heap 𝓤) (A : Atoms 𝓤) (W : Given
         -- and looked at
         assigns ! (bin ! (load ! (from ! (stop !)) (look ! (pos 2 9) refl)) (load ! (from ! (stop !)) (look ! (pos 2 5) refl)) tt) (from ! (stop !)) (store ! (pos 2 14) refl (tt, tt)) $
         use0 W (raw (Looks 𝓤 H A mem run .pre (to-looks y e))) (asks-looks y e is-y) $
-        calls-meant ! (fmOf 𝓤 H (W .laws) 𝓣) looks.ended (looks.clauses 𝓤 H A mem run) known-looks (to-looks y e) (λ l ws. l ≡ lookedAs size d y (footprintOf wanted) e) (λ l ws. id⊢ 𝓤 _)
+        calls-meant ! (fmOf 𝓤 H (W .laws) 𝓣) looks.ended (looks.clauses 𝓤 H A mem run) known-looks (to-looks y e) (λ l ws. l ≡ lookedAs size (drivesOf d) y (footprintOf wanted) e) (λ l ws. id⊢ 𝓤 _)
         (and-then ! (load ! (from ! (stop !)) (look ! (pos 3 2) refl)) (and-then ! (load ! (from ! (stop !)) (look ! (pos 3 3) refl)) (and-then ! (load ! (from ! (stop !)) (look ! (pos 3 17) refl)) (and-then ! (load ! (from ! (stop !)) (look ! (pos 3 6) refl)) (and-then ! (load ! (from ! (stop !)) (look ! (pos 3 14) refl)) (no-more !)))))) (λ v l ws e-l is-l.
         land ! (from ! (stop !)) (init ! (pos 5 10) refl (LL.lawful Lk.the-type Lk′.the-laws 𝓤 H A W .typed l _ is-l .0)) $ drop ! $ drop ! $ drop ! $
         holds-also ! (pos 2 10) (λ (u : Val). u) (ap only (LL.tells Lk.the-type Lk′.the-laws l (v ∷ []) is-l)) refl $
         assigns ! (bin ! (load ! (from ! (stop !)) (look ! (pos 2 7) refl)) (load ! (from ! (fld ! refl (stop !))) (look-in ! (pos 2 10) (sub ! 0 refl (whole !)))) tt) (from ! (stop !)) (store ! (pos 2 7) refl (tt, tt)) $
         assigns ! (of-opd ! (load ! (from ! (fld ! refl (stop !))) (look-in ! (pos 2 10) (sub ! 1 refl (whole !))))) (from ! (stop !)) (store ! (pos 2 14) refl (tt, tt)) $
-        let said-bad = ap (λ (z : Looked). sight k .bad || z .bad) e-l ∙ sym (bad-next size d k p xs (inside t h)) in
+        let said-bad = ap (λ (z : Looked). sight k .bad || z .bad) e-l ∙ sym (bad-next size (drivesOf d) k p xs (inside t h)) in
         let said-near = ap (λ (z : Looked). z .near) e-l in
         first ! $ branches ! (load ! (from ! (stop !)) (look ! (pos 2 14) refl))
         (λ yes.
@@ -268,9 +269,9 @@ module _ {M : Type 1} (𝓤 : URA M) (H : Heap 𝓤) (A : Atoms 𝓤) (W : Given
         holds-also ! (pos 2 18) (λ (u : Val). u) (ap only is-c) refl $
         assigns-last ! (bin ! (load ! (from ! (stop !)) (look ! (pos 2 8) refl)) (load ! (from ! (stop !)) (look ! (pos 2 18) refl)) tt) (from ! (stop !)) (store ! (pos 2 8) refl (tt, tt)) $
         empties ! 2 (since 10 E) refl $ exec ! (𝓣 .C) (𝓣 .Λ) E counting (anyQ (afterTurn 𝓤 H X Left)) $
-        counted t h X _ _ said-bad (ap (λ (z : Bool). sight k .blocked || z) e-c ∙ sym (near-next size d k p xs (inside t h) (sym said-near ∙ held (l .near) yes))) on))))
+        counted t h X _ _ said-bad (ap (λ (z : Bool). sight k .blocked || z) e-c ∙ sym (near-next size (drivesOf d) k p xs (inside t h) (sym said-near ∙ held (l .near) yes))) on))))
         (λ no. skips ! $ empties ! 2 (since 10 E) refl $ exec ! (𝓣 .C) (𝓣 .Λ) E counting (anyQ (afterTurn 𝓤 H X Left)) $
-        counted t h X _ _ said-bad (sym (far-next size d k p xs (inside t h) (sym said-near ∙ failed (l .near) no))) on)))
+        counted t h X _ _ said-bad (sym (far-next size (drivesOf d) k p xs (inside t h) (sym said-near ∙ failed (l .near) no))) on)))
 
     looped : Sq W (I first-turn) (runs (𝓣 .C) (𝓣 .Λ) E body.t-8 (atRet E Post))
     looped = first ! $ blocks ! $ counts ! 𝓣 I {q = anyQ Left} more leaves first-turn
@@ -298,7 +299,7 @@ module _ {M : Type 1} (𝓤 : URA M) (H : Heap 𝓤) (A : Atoms 𝓤) (W : Given
       land ! (from ! (stop !)) (init ! (pos 5 6) refl (LL.lawful Fp.the-type Fp′.the-laws 𝓤 H A W .typed g _ is-g .0)) $ drop ! $ drop ! $ drop ! $
       assigns ! (of-opd ! (false-lit !)) (from ! (stop !)) (init ! (pos 2 7) refl (tt, tt)) $ assigns ! (of-opd ! (false-lit !)) (from ! (stop !)) (init ! (pos 2 8) refl (tt, tt)) $
       assigns ! (of-opd ! (lit ! tt)) (from ! (stop !)) (init ! (pos 2 9) refl (tt, record { fits = zero-fits })) $
-      holds-also ! (pos 2 7) vbool (ap (λ (z : Sight). z .bad) (sees-none size d p xs)) refl $ holds-also ! (pos 2 8) vbool (ap (λ (z : Sight). z .blocked) (sees-none size d p xs)) refl $
+      holds-also ! (pos 2 7) vbool (ap (λ (z : Sight). z .bad) (sees-none size (drivesOf d) p xs)) refl $ holds-also ! (pos 2 8) vbool (ap (λ (z : Sight). z .blocked) (sees-none size (drivesOf d) p xs)) refl $
       empties ! 2 (since 10 (envOf body.locals ls)) refl $
       looped 𝓣 known-looks known-meets fv (subst (λ (z : Footprint). Is Fp.the-row z (fv ∷ [])) e-g is-g) ls q′))))
     where

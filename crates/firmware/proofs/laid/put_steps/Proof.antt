@@ -47,7 +47,8 @@ use Rattle.meaning.specs.Command.{noRecord}
 use Rattle.meaning.proofs.Ran as Rn
 use Rattle.meaning.proofs.Ran.Laws as Rn′
 use Rattle.board.specs.declared.run.RanTaken.{RanTaken}
-use Rattle.board.specs.Changes.{withTaken, tableWith}
+use Rattle.meaning.specs.Step.{withTaken}
+use Rattle.board.specs.Changes.{tableWith}
 use Rattle.board.proofs.run.RanTaken as P
 use Rattle.board.proofs.run.RanTaken.Laws as P′
 use Rattle.board.proofs.table.with_taken as with

@@ -44,7 +44,7 @@ use Rattle.meaning.specs.declared.Record.{Record}
 use Rattle.meaning.specs.Command.{noRecord}
 use Rattle.meaning.proofs.Rows.{pass, stop as stop-row}
 use Rattle.board.specs.declared.pick.PickedTaken.{PickedTaken}
-use Rattle.board.specs.Changes.{withTaken}
+use Rattle.meaning.specs.Step.{withTaken}
 use Rattle.board.specs.Sight.{withPicked}
 use Rattle.board.proofs.pick.PickedTaken as P
 use Rattle.board.proofs.pick.PickedTaken.Laws as P′

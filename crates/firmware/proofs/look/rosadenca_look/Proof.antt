@@ -14,12 +14,12 @@ returns : tie.Need-returns
 unfolding lookedPart
 returns c = sym (pass _ _ _ (ne-eqb _ 0 (λ e. c .if1 .taken (c .before .look-number .ensures ∙ e))))
 
-mul-t8 : tie.Need-mul-t8
-mul-t8 c = search needs
+mul-t12 : tie.Need-mul-t12
+mul-t12 c = search needs
 
 returns-2 : tie.Need-returns-2
 unfolding lookedPart
 returns-2 c = sym (stop _ _ _ (eq-eqb _ 0 (sym (c .before .look-number .ensures) ∙ c .if1 .left)))
 
 pub rosadenca-look-spec : {M : Type 1} → statement M
-rosadenca-look-spec = tie.close (tie.spec look-number-requires returns mul-t8 returns-2)
+rosadenca-look-spec = tie.close (tie.spec look-number-requires returns mul-t12 returns-2)

@@ -15,7 +15,7 @@ by-picks = record {
   xt = bytes-ty;
   passed = a-list;
   goes = λ κs ps d n. byPicks d n (ps .now);
-  face = λ κs ps d n m i t r m′ i′ long. picks-claim d n m i t r m′ i′ long (ps .now);
+  face = λ κs ps d n s t r s′ long. picks-claim d n s t r s′ long (ps .now);
 }
 
 pub rosadenca-run-picks-spec : {M : Type 1} → statement M

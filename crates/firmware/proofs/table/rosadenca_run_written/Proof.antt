@@ -17,7 +17,7 @@ as-written = record {
   xt = tyInt w64;
   passed = a-number;
   goes = λ κs b d n. asWritten d n b;
-  face = λ κs b d n m i t r m′ i′ long. written-claim d n m i t r m′ i′ long b;
+  face = λ κs b d n s t r s′ long. written-claim d n s t r s′ long b;
 }
 
 pub rosadenca-run-written-spec : {M : Type 1} → statement M
