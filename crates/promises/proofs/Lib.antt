@@ -23,6 +23,10 @@ pub mod Taken
 pub mod AsWritten
 pub mod WrittenThenRead
 pub mod OneRange
-pub mod AsBefore
 -- and, since steps keep lengths, one reply
 pub mod OneReply
+-- with unit 0 alone all is as it was with one drive, but for one byte
+pub mod ByteTwo
+pub mod Agree
+pub mod AgreeRuns
+pub mod AsBefore

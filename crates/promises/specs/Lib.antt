@@ -20,5 +20,6 @@ pub mod Closing
 pub mod PickMoves
 pub mod Taken
 pub mod WrittenThenRead
-pub mod AsBefore
 pub mod OneRange
+-- with unit 0 alone all is as it was with one drive, but for one byte
+pub mod AsBefore
