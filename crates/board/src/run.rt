@@ -191,7 +191,16 @@ pub fn picks_taken<'a>(
         seen = with_record(seen, k < commands, j.bad, command::remaining(r));
         k += 1;
     }
-    let number = first_number(memory, image0, image1, image2, image3, l, length, seen.spoiled);
+    let number = first_number(
+        memory,
+        image0,
+        image1,
+        image2,
+        image3,
+        l,
+        length,
+        seen.spoiled,
+    );
     if number != 0 {
         return RanTaken {
             ran: refused(number),
@@ -278,7 +287,16 @@ pub fn written_taken<'a>(
         seen = with_record(seen, k < commands, bad, command::remaining(r));
         k += 1;
     }
-    let number = first_number(memory, image0, image1, image2, image3, l, length, seen.spoiled);
+    let number = first_number(
+        memory,
+        image0,
+        image1,
+        image2,
+        image3,
+        l,
+        length,
+        seen.spoiled,
+    );
     if number != 0 {
         return RanTaken {
             ran: refused(number),

@@ -240,7 +240,16 @@ pub fn walk(
 ) -> WalkedTable
     ensures { λ r. ⌜ WalkGives (drivesOf l) start (stateOf (now (memory .entry)) (images (now (image0 .entry)) (now (image1 .entry)) (now (image2 .entry)) (now (image3 .entry))) table) (r .walked) (r .table) ⌝ }
 {
-    let f = find(memory, image0, image1, image2, image3, l, start, MOST_COMMANDS);
+    let f = find(
+        memory,
+        image0,
+        image1,
+        image2,
+        image3,
+        l,
+        start,
+        MOST_COMMANDS,
+    );
     let walked = f.walked;
     let addresses = f.addresses;
     let table = filled(memory, l, addresses, walked.commands, table);

@@ -42,7 +42,6 @@ module _ (a n : ℕ) (s : Record) where
   abbrev status-met : Bool
   status-met = crosses a n (s .iopb) 4
 
-
   bytes-by : (rd wr : Bool) → meets (bytes a n) (touchedBy rd wr s) ≡ cond (rd || wr) (data-met || status-met) status-met
   bytes-by true wr = some-append (overlap (bytes a n)) (dataBytes s) (statusBytes s ∷ []) ∙ ap (λ (b : Bool). data-met || b) (or-no status-met)
   bytes-by false true = some-append (overlap (bytes a n)) (dataBytes s) (sectors s ∷ statusBytes s ∷ []) ∙ ap (λ (b : Bool). data-met || b) (or-no status-met)

@@ -115,13 +115,7 @@ pub struct Looked {
 }
 
 // A record, as a pick sees it that wants to go to a command with the footprint `wanted`.
-pub fn look(
-    memory: u64,
-    l: LentDrives,
-    r: Record,
-    wanted: Footprint,
-    earlier: bool,
-) -> Looked
+pub fn look(memory: u64, l: LentDrives, r: Record, wanted: Footprint, earlier: bool) -> Looked
     ensures { λ v. ⌜ v ≡ lookedAs memory (drivesOf l) r wanted earlier ⌝ }
 {
     let h = touch::data_hull(r);

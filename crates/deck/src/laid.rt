@@ -68,7 +68,7 @@ fn protects(bytes: &[u8]) -> bool
 }
 
 // The drive of the bench: maxima 1, 1 and 7, the last head's too, and protected where byte 31 of the first record says so.
-fn bench_drive(bytes: &[u8]) -> Drive
+pub fn bench_drive(bytes: &[u8]) -> Drive
     ensures { λ r. ⌜ r ≡ deck.benchDrive (now (bytes .entry)) ⌝ }
 {
     Drive {

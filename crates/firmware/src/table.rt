@@ -71,7 +71,16 @@ pub extern "C" fn rosadenca_pick<'a>(
     let seen = laid::look_over(table, size, drives, used, at);
     let r = laid::record_at(table, at);
     let p = board::pick::pick_seen(
-        memory, image0, image1, image2, image3, drives, r, seen, commands, place,
+        memory,
+        image0,
+        image1,
+        image2,
+        image3,
+        drives,
+        r,
+        seen,
+        commands,
+        place,
     );
     laid::put_taken(table, place, p)
 }
@@ -97,7 +106,16 @@ pub extern "C" fn rosadenca_run_picks<'a>(
     }
     let t = laid::load_first(table, MOST_COMMANDS);
     let r = board::run::picks_taken(
-        memory, image0, image1, image2, image3, drives, t, length, commands, picks,
+        memory,
+        image0,
+        image1,
+        image2,
+        image3,
+        drives,
+        t,
+        length,
+        commands,
+        picks,
     );
     laid::put_steps(table, r)
 }
@@ -123,7 +141,16 @@ pub extern "C" fn rosadenca_run_written<'a>(
     }
     let t = laid::load_first(table, MOST_COMMANDS);
     let r = board::run::written_taken(
-        memory, image0, image1, image2, image3, drives, t, length, commands, budget,
+        memory,
+        image0,
+        image1,
+        image2,
+        image3,
+        drives,
+        t,
+        length,
+        commands,
+        budget,
     );
     laid::put_steps(table, r)
 }

@@ -60,13 +60,7 @@ fn table_with(table: [Record; 32], taken: [u32; 32]) -> [Record; 32]
 }
 
 // What a pick sees of a table by value, of which n records are in use.
-fn look_over(
-    table: [Record; 32],
-    memory: u64,
-    l: LentDrives,
-    n: usize,
-    place: usize,
-) -> Sight
+fn look_over(table: [Record; 32], memory: u64, l: LentDrives, n: usize, place: usize) -> Sight
     requires { ⌜ (n ≤ mostCommands) × (place < mostCommands) ⌝ }
     ensures { λ s. ⌜ s ≡ sightOf memory (drivesOf l) n place table ⌝ }
 {
@@ -103,7 +97,16 @@ pub fn pick(
     let at = pick::place_seen(place);
     let seen = look_over(table, size, l, run::in_table(commands), at);
     let picked = pick::pick_seen(
-        memory, image0, image1, image2, image3, l, table[at], seen, commands, place,
+        memory,
+        image0,
+        image1,
+        image2,
+        image3,
+        l,
+        table[at],
+        seen,
+        commands,
+        place,
     );
     let mut after = table;
     if picked.number == 0 {
@@ -130,7 +133,16 @@ pub fn run_picks(
     ensures { λ r. ⌜ RunGives (drivesOf l) commands (byPicks (drivesOf l) commands (now (picks .entry))) (stateIn (lent (now (memory .entry)) (images (now (image0 .entry)) (now (image1 .entry)) (now (image2 .entry)) (now (image3 .entry)))) table) (r .ran) (stateIn (lent (now (memory .exit)) (images (now (image0 .exit)) (now (image1 .exit)) (now (image2 .exit)) (now (image3 .exit)))) (r .table)) ⌝ }
 {
     let r = run::picks_taken(
-        memory, image0, image1, image2, image3, l, table, RECORDS, commands, picks,
+        memory,
+        image0,
+        image1,
+        image2,
+        image3,
+        l,
+        table,
+        RECORDS,
+        commands,
+        picks,
     );
     let ran = r.ran;
     let taken = r.taken;
@@ -155,7 +167,16 @@ pub fn run_written(
     ensures { λ r. ⌜ RunGives (drivesOf l) commands (asWritten (drivesOf l) commands budget) (stateIn (lent (now (memory .entry)) (images (now (image0 .entry)) (now (image1 .entry)) (now (image2 .entry)) (now (image3 .entry)))) table) (r .ran) (stateIn (lent (now (memory .exit)) (images (now (image0 .exit)) (now (image1 .exit)) (now (image2 .exit)) (now (image3 .exit)))) (r .table)) ⌝ }
 {
     let r = run::written_taken(
-        memory, image0, image1, image2, image3, l, table, RECORDS, commands, budget,
+        memory,
+        image0,
+        image1,
+        image2,
+        image3,
+        l,
+        table,
+        RECORDS,
+        commands,
+        budget,
     );
     let ran = r.ran;
     let taken = r.taken;
