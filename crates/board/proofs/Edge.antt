@@ -1,7 +1,6 @@
 -- The lent slices as a store. Bytes put into memory, or onto the disk of the unit whose image is at hand, are put into that slice; and memory
 -- with the image of one unit, laid over the store of all that is lent, is what is lent with these two in their places.
 use mathlib.Core.Path.{_≡_, refl, sym, ap, _∙_, fun-ext}
-use mathlib.Core.Logic.{_≢_}
 use Prim.Native.Nat.{ℕ, zero, suc, _≤_, _<_}
 use native.Mathlib.Omega.{arith}
 use mathlib.Core.Bool.{Bool, true, false, cond}

@@ -51,15 +51,6 @@ module _ (t : List Record) (n p : ℕ) where
     unfolding placeNumber
     may-go f w = pass (leb n p) _ _ (lt-leb n p in-use) ∙ pass (finished (getD t p noRecord)) _ _ f ∙ pass (waits t p) _ _ w
 
-module _ (d : Drives) (n p : ℕ) (s : State) where
-  pub sizes-first : sizesWrong d s ≡ true → pickNumber d n p s ≡ 1
-  unfolding pickNumber
-  sizes-first e = stop _ _ _ e
-
-  pub spoiled-next : sizesWrong d s ≡ false → spoiled d n s ≡ true → pickNumber d n p s ≡ 9
-  unfolding pickNumber
-  spoiled-next e f = pass _ _ _ e ∙ stop _ _ _ f
-
 -- over 32 commands spoil a table, and otherwise a bad record in use does
 pub over-most : (d : Drives) (n : ℕ) (s : State) → mostCommands < n → spoiled d n s ≡ true
 unfolding spoiled

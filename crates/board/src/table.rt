@@ -1,5 +1,4 @@
-// Steps taken, laid into a record and into a table: all that a run changes of them.
-use crate::RECORDS;
+// Steps taken, laid into a record: all that a step or a run changes of it.
 use meaning::Record;
 ghost use mathlib.Core.Path.{_≡_};
 ghost use Rattle.meaning.specs.Step.{withTaken};

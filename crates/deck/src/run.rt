@@ -11,7 +11,7 @@ ghost use mathlib.Core.List.{[]};
 ghost use lib.ListN.{take, drop, replicate};
 ghost use Rattle.meaning.specs.Store.{lent, images};
 ghost use Rattle.meaning.specs.Drives.{drivesOf};
-ghost use Rattle.meaning.specs.Bench.{noRecords, outcomeOf};
+ghost use Rattle.meaning.specs.Bench.{outcomeOf};
 ghost use Rattle.deck.specs.Meant.{Reports, codesOf, chainOutcome};
 
 // The codes of the commands, in front of zeros.

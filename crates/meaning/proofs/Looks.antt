@@ -9,7 +9,7 @@ use lib.Dec.{ltb, eqb}
 use borrow.Author.Tests.{ltb-false, eq-eqb, ne-eqb}
 use Rattle.meaning.specs.Drives.{Drives, mostUnits}
 use Rattle.meaning.specs.Store.{disk, Store, lent, images, get}
-use Rattle.meaning.specs.Sectors.{sectorCount, largestSector, onDisk}
+use Rattle.meaning.specs.Sectors.{largestSector, onDisk}
 use Rattle.meaning.specs.Sizes.{imagesWrong}
 use Rattle.meaning.specs.declared.Part.{Part}
 use Rattle.meaning.specs.Look.{lookNumber, lookPart, lookedPart, imageOf}

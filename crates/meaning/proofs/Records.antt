@@ -1,9 +1,8 @@
 -- What a step makes of a command's record: one step less remains, and nothing else that the rules look at changes.
 use mathlib.Core.Path.{_≡_, refl}
-use Prim.Native.Nat.{ℕ, suc, _+_, _<_}
+use Prim.Native.Nat.{suc, _+_, _<_}
 use native.Mathlib.Omega.{arith}
 use mathlib.Core.Bool.{true, false}
-use mathlib.Core.List.{List}
 use borrow.Author.Tests.{leb-true, leb-false, lt-leb, le-ltb}
 use Rattle.meaning.specs.Drives.{Drives}
 use Rattle.meaning.specs.declared.Record.{Record}

@@ -2,7 +2,7 @@
 -- by computing the definitions. Units 0 and 1 have drives like the bench's, unit 1 a protected one; units 2 and 3 are absent.
 use mathlib.Core.Path.{_≡_, refl}
 use Prim.Native.Nat.{ℕ, _*_}
-use mathlib.Core.Bool.{Bool, true, false}
+use mathlib.Core.Bool.{true, false}
 use mathlib.Core.List.{List, [], _∷_, _++_, map}
 use lib.ListN.{length, getD, drop, replicate}
 use Rattle.meaning.specs.declared.Drive.{Drive}
@@ -121,7 +121,7 @@ Answered rs = map (λ (r : Example). answer (r .asks)) rs ≡ map (λ (r : Examp
 -- Line 64 to 70: the code, and status byte 2
 abbrev pub codes : List Example
 codes =
-    -- Line 64: a Read Data of units 0 to 4 and 7
+    -- Line 64: a Read Data of units 0 to 5 and 7
     closed standing (command 0 2 0 1) ⇒ (0x00 ∷ 0x03 ∷ [])
     ∷ closed standing (command 1 2 0 1) ⇒ (0x00 ∷ 0x13 ∷ [])
     ∷ closed standing (command 2 2 0 1) ⇒ (0x42 ∷ 0x03 ∷ [])
