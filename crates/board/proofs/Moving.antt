@@ -7,18 +7,18 @@ use native.Mathlib.Nat.{not-suc-le-zero}
 use native.Mathlib.Omega.{arith}
 use mathlib.Core.Bool.{Bool, true, false, cond}
 use mathlib.Core.List.{List, [], _∷_, map}
-use lib.ListN.{length, getD, set, take, drop}
+use lib.ListN.{length, getD, set}
 use lib.Seq.{sets}
 use borrow.Author.Tests.{eq-eqb, ne-eqb}
 use Rattle.meaning.specs.Drives.{Drives}
 use Rattle.meaning.specs.declared.Link.{Link}
 use Rattle.meaning.specs.declared.Record.{Record}
-use Rattle.meaning.specs.Store.{Store, memory, disk, lent, images, area, get, put, Move, copy, move, moves}
+use Rattle.meaning.specs.Store.{Store, memory, disk, lent, images, Move, move, moves}
 use Rattle.meaning.specs.Sectors.{sectorBytes}
 use Rattle.meaning.specs.Ranges.{Range, bytes}
 use Rattle.meaning.specs.Links.{rangeOf}
-use Rattle.meaning.specs.Pieces.{Piece}
 use Rattle.meaning.specs.Command.{reads, writes, transfers, stepsOf, remaining, linksOf}
+use Rattle.meaning.specs.Touch.{dataBytes}
 use Rattle.meaning.specs.Step.{sectorMove, closingByte0, closing, closeMove, stepMoves, step, withTaken, stepped}
 use Rattle.meaning.specs.Sizes.{storeWrong}
 use Rattle.meaning.specs.Pick.{badRecord}
@@ -30,69 +30,11 @@ use Rattle.meaning.proofs.Conditions.{good, right-store, Inside}
 use Rattle.meaning.proofs.Pieces.{data-plain, data-listed}
 use Rattle.board.specs.OneUnit.{onUnit}
 use Rattle.board.specs.Ready.{Ready}
-use Rattle.board.specs.Moved.{sectorsMoved, onDisk, pieceMove, windowMoved}
-use Rattle.board.proofs.Edge.{unit-disk, put-memory, put-disk, put-lent, unit-laid, unit-own, unit-below}
+use Rattle.board.specs.Moved.{sectorsMoved, onDisk, partMove, windowMoved}
+use Rattle.board.proofs.Edge.{put-lent, unit-laid, unit-own, unit-below}
 use Rattle.board.proofs.Windows.{sectors-window, plain-window}
 
--- where the next step of a command without a list finds its sector, and its data
-abbrev pub sectorAt : Record → ℕ
-sectorAt r = sectorBytes * (r .sector + r .taken)
-
-abbrev pub dataAt : Record → ℕ
-dataAt r = r .address + sectorBytes * r .taken
-
--- n bytes of one list, from a place on, at a place of another
-abbrev pub copied : ℕ → List ℕ → ℕ → List ℕ → ℕ → List ℕ
-copied n src from dst to = sets dst to (take n (drop from src))
-
--- ---- the sectors of several steps, by the kind of their command
-
-module _ (n : ℕ) (r : Record) (m i : List ℕ) (plain : r .ranges ≡ 0) (y : Ready n r (length m) (length i)) (t : transfers r ≡ true) where
-  abbrev u : ℕ
-  u = r .unit
-
-  abbrev lo : ℕ
-  lo = sectorBytes * r .taken
-
-  abbrev one : Piece
-  one = record { at = lo; from = r .address + lo; many = sectorBytes * n }
-
-  on-disk : onDisk r + lo ≡ sectorAt r
-  on-disk = omega arith
-
-  module _ (s : Store) where
-    -- all in one piece
-    one-piece : (rd : Bool) → reads r ≡ rd → sectorsMoved n r (onUnit u m i s) ≡ move (pieceMove u rd (onDisk r) one) (onUnit u m i s)
-    one-piece rd e =
-        let few = y .left t in
-        sectors-window n r (onUnit u m i s) t (rw (unit-disk u m i s) (y .sectors t)) (y .bytes t)
-        ∙ ap₂ (λ (b : Bool) (rs : List Range). windowMoved u b (onDisk r) rs 0 lo (lo + sectorBytes * n) (onUnit u m i s)) e (data-plain r plain)
-        ∙ plain-window u rd (onDisk r) (r .address) (sectorBytes * r .count) lo (sectorBytes * n) (onUnit u m i s) (omega arith)
-
-    pub read-moved : reads r ≡ true → sectorsMoved n r (onUnit u m i s) ≡ onUnit u (copied (sectorBytes * n) i (sectorAt r) m (dataAt r)) i s
-    unfolding move get
-    read-moved e =
-        one-piece true e
-        ∙ ap (λ (k : ℕ). move (copy (area (disk u) k (sectorBytes * n)) memory (dataAt r)) (onUnit u m i s)) on-disk
-        ∙ ap (λ (l : List ℕ). put memory (dataAt r) (take (sectorBytes * n) (drop (sectorAt r) l)) (onUnit u m i s)) (unit-disk u m i s)
-        ∙ put-memory u m i s (take (sectorBytes * n) (drop (sectorAt r) i)) (dataAt r)
-
-    pub write-moved : reads r ≡ false → sectorsMoved n r (onUnit u m i s) ≡ onUnit u m (copied (sectorBytes * n) m (dataAt r) i (sectorAt r)) s
-    unfolding move get
-    write-moved e =
-        one-piece false e
-        ∙ ap (λ (k : ℕ). move (copy (area memory (dataAt r) (sectorBytes * n)) (disk u) k) (onUnit u m i s)) on-disk
-        ∙ put-disk u m i s (take (sectorBytes * n) (drop (dataAt r) m)) (sectorAt r)
-
-  -- room for them
-  pub room-on-disk : sectorAt r + sectorBytes * n ≤ length i
-  room-on-disk = omega (arith, y .sectors t)
-
-  pub room-in-memory : dataAt r + sectorBytes * n ≤ length m
-  room-in-memory =
-      let few = y .left t in
-      let all : All (Inside (length m)) (bytes (r .address) (sectorBytes * r .count) ∷ []) = subst (All (Inside (length m))) (data-plain r plain) (y .bytes t) in
-      omega (arith, all .0)
+-- ---- a command that is no transfer
 
 one-other : (r : Record) (s : Store) → reads r ≡ false → writes r ≡ false → moves (sectorMove r (r .taken)) s ≡ s
 unfolding sectorMove moves
@@ -103,43 +45,80 @@ unfolding sectorsMoved stepped withTaken
 none-moved zero r s e w = refl
 none-moved (suc k) r s e w = ap (sectorsMoved k (stepped r)) (one-other r s e w) ∙ none-moved k (stepped r) s e w
 
--- a transfer with a list: piece by piece
-pub listed-moved : (n : ℕ) (r : Record) (s : Store) → r .ranges ≢ 0 → Ready n r (length (s memory)) (length (s (disk (r .unit)))) → transfers r ≡ true
-    → sectorsMoved n r s ≡ windowMoved (r .unit) (reads r) (onDisk r) (map rangeOf (linksOf r)) 0 (sectorBytes * r .taken) (sectorBytes * r .taken + sectorBytes * n) s
-listed-moved n r s listed y t =
-    sectors-window n r s t (y .sectors t) (y .bytes t)
-    ∙ ap (λ (rs : List Range). windowMoved (r .unit) (reads r) (onDisk r) rs 0 (sectorBytes * r .taken) (sectorBytes * r .taken + sectorBytes * n) s) (data-listed r listed)
+-- ---- a transfer
 
-pub links-inside : (n : ℕ) (r : Record) (m i : ℕ) → r .ranges ≢ 0 → Ready n r m i → transfers r ≡ true → All (λ x. Inside m (rangeOf x)) (linksOf r)
-links-inside n r m i listed y t = each (linksOf r) (subst (All (Inside m)) (data-listed r listed) (y .bytes t))
-  where
-    each : (xs : List Link) → All (Inside m) (map rangeOf xs) → All (λ x. Inside m (rangeOf x)) xs
-    each [] h = tt
-    each (x ∷ xs) h = (h .0, each xs (h .1))
+-- the bytes of the steps that are taken
+abbrev takenBytes : Record → ℕ
+takenBytes r = sectorBytes * r .taken
 
--- ---- the unit, out of all that is lent
+-- the sectors of its next n steps, moved at once on unit u, to memory where `rd`: without a list side by side, and in the pieces of its list
+abbrev plainly : ℕ → Record → ℕ → Bool → Store → Store
+plainly n r u rd = move (partMove u rd (r .address + takenBytes r) (onDisk r + takenBytes r) (sectorBytes * n))
 
--- the sectors of a transfer, moved between memory and the image of its own unit, are moved in the store of all that is lent
-module _ (n : ℕ) (r : Record) (m : List ℕ) (is : List (List ℕ)) (m′ i′ : List ℕ) where
-  abbrev MovedOn : ℕ → Type 0
-  MovedOn u =
-      u < length is
-      → ((s : Store) → onUnit (r .unit) m′ i′ s ≡ sectorsMoved n r (onUnit (r .unit) m (getD is u []) s))
-      → lent m′ (set is u i′) ≡ sectorsMoved n r (lent m is)
+abbrev in-pieces : ℕ → Record → ℕ → Bool → Store → Store
+in-pieces n r u rd = windowMoved u rd (onDisk r) (map rangeOf (linksOf r)) 0 (takenBytes r) (takenBytes r + sectorBytes * n)
 
-  own-moved : MovedOn (r .unit)
-  own-moved below e =
-      sym (unit-laid (r .unit) m′ i′ m is below)
-      ∙ e (lent m is)
-      ∙ ap (sectorsMoved n r) (unit-own (r .unit) m is below)
+-- this is what its sectors, moved one after another, come to
+module _ (n : ℕ) (r : Record) (s : Store) (t : transfers r ≡ true) (y : Ready n r (length (s memory)) (length (s (disk (r .unit))))) where
+  abbrev window : List Range → Store
+  window rs = windowMoved (r .unit) (reads r) (onDisk r) rs 0 (takenBytes r) (takenBytes r + sectorBytes * n) s
 
-  pub unit-moved : (u : ℕ) → r .unit ≡ u → MovedOn u
-  unit-moved u eu = subst MovedOn eu own-moved
+  all-moved : sectorsMoved n r s ≡ window (dataBytes r)
+  all-moved = sectors-window n r s t (y .sectors t) (y .bytes t)
 
--- a transfer that is ready has a unit that there is
-pub ready-on : (n : ℕ) (r : Record) (k : ℕ) (is : List (List ℕ)) (u : ℕ) → r .unit ≡ u → Ready n r k (length (getD is (r .unit) [])) → Ready n r k (length (getD is u []))
-ready-on n r k is u eu y = subst (λ (v : ℕ). Ready n r k (length (getD is v []))) eu y
+  plain-moved : r .ranges ≡ 0 → sectorsMoved n r s ≡ plainly n r (r .unit) (reads r) s
+  plain-moved plain =
+      let few = y .left t in
+      all-moved
+      ∙ ap window (data-plain r plain)
+      ∙ plain-window (r .unit) (reads r) (onDisk r) (r .address) (sectorBytes * r .count) (takenBytes r) (sectorBytes * n) s (omega arith)
 
+  listed-moved : r .ranges ≢ 0 → sectorsMoved n r s ≡ in-pieces n r (r .unit) (reads r) s
+  listed-moved listed = all-moved ∙ ap window (data-listed r listed)
+
+-- a transfer that is ready, on the image of its unit u out of all that is lent
+module _ (n : ℕ) (r : Record) (m : List ℕ) (is : List (List ℕ)) (t : transfers r ≡ true) (y : Ready n r (length m) (length (getD is (r .unit) []))) (u : ℕ) (eu : r .unit ≡ u) where
+  abbrev image : List ℕ
+  image = getD is u []
+
+  -- there is room for what it moves
+  ready-on : Ready n r (length m) (length image)
+  ready-on = subst (λ (v : ℕ). Ready n r (length m) (length (getD is v []))) eu y
+
+  pub plain-room : r .ranges ≡ 0 → (r .address + takenBytes r + sectorBytes * n ≤ length m) × (onDisk r + takenBytes r + sectorBytes * n ≤ length image)
+  plain-room plain =
+      let few = y .left t in
+      let all : All (Inside (length m)) (bytes (r .address) (sectorBytes * r .count) ∷ []) = subst (All (Inside (length m))) (data-plain r plain) (y .bytes t) in
+      (omega (arith, all .0), omega (arith, ready-on .sectors t))
+
+  pub listed-room : r .ranges ≢ 0 → All (λ x. Inside (length m) (rangeOf x)) (linksOf r) × (onDisk r + (takenBytes r + sectorBytes * n) ≤ length image)
+  listed-room listed = (each (linksOf r) (subst (All (Inside (length m))) (data-listed r listed) (y .bytes t)), omega (arith, ready-on .sectors t))
+    where
+      each : (xs : List Link) → All (Inside (length m)) (map rangeOf xs) → All (λ x. Inside (length m) (rangeOf x)) xs
+      each [] h = tt
+      each (x ∷ xs) h = (h .0, each xs (h .1))
+
+  -- and what is done to memory and this image, whatever the other units hold, is done to all that is lent; `rd` is its direction as the code
+  -- found it
+  module _ (below : u < length is) (rd : Bool) (er : rd ≡ reads r) (m′ i′ : List ℕ) where
+    abbrev Done : (ℕ → Bool → Store → Store) → Type 0
+    Done f = ((v : ℕ) (s : Store) → onUnit v m′ i′ s ≡ f v rd (onUnit v m image s)) → lent m′ (set is u i′) ≡ sectorsMoved n r (lent m is)
+
+    done : (f : ℕ → Bool → Store → Store) → sectorsMoved n r (lent m is) ≡ f (r .unit) (reads r) (lent m is) → Done f
+    done f whole e =
+        sym (unit-laid u m′ i′ m is below)
+        ∙ e u (lent m is)
+        ∙ ap (f u rd) (unit-own u m is below)
+        ∙ ap₂ (λ (v : ℕ) (b : Bool). f v b (lent m is)) (sym eu) er
+        ∙ sym whole
+
+    pub plain-done : r .ranges ≡ 0 → Done (plainly n r)
+    plain-done plain = done (plainly n r) (plain-moved n r (lent m is) t y plain)
+
+    pub listed-done : r .ranges ≢ 0 → Done (in-pieces n r)
+    listed-done listed = done (in-pieces n r) (listed-moved n r (lent m is) t y listed)
+
+-- its unit is one that there is
 pub ready-below : (n : ℕ) (r : Record) (k : ℕ) (i₀ i₁ i₂ i₃ : List ℕ) → 1 ≤ n → transfers r ≡ true → Ready n r k (length (getD (images i₀ i₁ i₂ i₃) (r .unit) [])) → r .unit < 4
 ready-below n r k i₀ i₁ i₂ i₃ some t y = unit-below i₀ i₁ i₂ i₃ (r .unit) (let z = y .sectors t in omega arith)
 

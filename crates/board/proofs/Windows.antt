@@ -27,7 +27,7 @@ use Rattle.meaning.proofs.Conditions.{Inside}
 use Rattle.meaning.proofs.Links.{Going, going-start, going-on, next-link, no-more-links}
 use Rattle.meaning.proofs.Pieces.{piece-asked}
 use Rattle.board.specs.OneUnit.{onUnit}
-use Rattle.board.specs.Moved.{sectorsMoved, onDisk, pieceMove, windowMoved}
+use Rattle.board.specs.Moved.{sectorsMoved, onDisk, partMove, pieceMove, windowMoved}
 use Rattle.board.proofs.Edge.{unit-disk, put-memory, put-disk}
 use Rattle.board.proofs.Copying.{copied-behind}
 
@@ -268,42 +268,50 @@ sectors-window (suc n) r s t fits all =
 -- ---- a transfer without a list: one piece
 
 pub plain-window : (u : ℕ) (rd : Bool) (f a c lo n : ℕ) (s : Store) → lo + n ≤ c
-    → windowMoved u rd f (bytes a c ∷ []) 0 lo (lo + n) s ≡ move (pieceMove u rd f (record { at = lo; from = a + lo; many = n })) s
+    → windowMoved u rd f (bytes a c ∷ []) 0 lo (lo + n) s ≡ move (partMove u rd (a + lo) (f + lo) n) s
 unfolding windowMoved moves
 plain-window u rd f a c lo n s h =
     let skip : min (lo - 0) c ≡ lo = omega arith in
     let end : min (lo + n - 0) c - min (lo - 0) c ≡ n = omega arith in
     let at : 0 + min (lo - 0) c ≡ lo = omega arith in
-    λ j. move (pieceMove u rd f (record { at = at j; from = a + skip j; many = end j })) s
+    λ j. move (partMove u rd (a + skip j) (f + at j) (end j)) s
 
--- ---- a piece as the code copies it
+-- ---- bytes as the code copies them
 
+module _ (u : ℕ) (m i : List ℕ) (s : Store) (a d n : ℕ) where
+  pub part-read : (rd : Bool) → rd ≡ true → (m′ : List ℕ) → m′ ≡ sets m a (take n (drop d i)) → onUnit u m′ i s ≡ move (partMove u rd a d n) (onUnit u m i s)
+  unfolding move get
+  part-read rd e m′ em =
+      ap (λ (l : List ℕ). onUnit u l i s) em
+      ∙ sym (put-memory u m i s (take n (drop d i)) a)
+      ∙ ap (λ (l : List ℕ). put memory a (take n (drop d l)) (onUnit u m i s)) (sym (unit-disk u m i s))
+      ∙ ap (λ (r : Bool). move (partMove u r a d n) (onUnit u m i s)) (sym e)
+
+  pub part-written : (rd : Bool) → rd ≡ false → (i′ : List ℕ) → i′ ≡ sets i d (take n (drop a m)) → onUnit u m i′ s ≡ move (partMove u rd a d n) (onUnit u m i s)
+  unfolding move get
+  part-written rd e i′ ei =
+      ap (λ (l : List ℕ). onUnit u m l s) ei
+      ∙ sym (put-disk u m i s (take n (drop a m)) d)
+      ∙ ap (λ (r : Bool). move (partMove u r a d n) (onUnit u m i s)) (sym e)
+
+-- a piece of a range
 module _ (f b lo hi : ℕ) (x : Link) (m i : List ℕ) (skip end : ℕ) (is-skip : skip ≡ before (rangeOf x) b lo) (is-end : end ≡ before (rangeOf x) b hi) (u : ℕ) (s : Store) where
   abbrev piece : Piece
   piece = record { at = b + skip; from = x .address + skip; many = end - skip }
 
-  this-piece : piece ≡ pieceOf (rangeOf x) b lo hi
-  this-piece = λ j. record { at = b + is-skip j; from = x .address + is-skip j; many = is-end j - is-skip j }
+  this-piece : (rd : Bool) → move (pieceMove u rd f piece) (onUnit u m i s) ≡ move (pieceMove u rd f (pieceOf (rangeOf x) b lo hi)) (onUnit u m i s)
+  this-piece rd = λ j. move (pieceMove u rd f (record { at = b + is-skip j; from = x .address + is-skip j; many = is-end j - is-skip j })) (onUnit u m i s)
 
   pub piece-nothing : (rd : Bool) → end ≤ skip → onUnit u m i s ≡ move (pieceMove u rd f (pieceOf (rangeOf x) b lo hi)) (onUnit u m i s)
-  piece-nothing rd h = sym (ap (λ (p : Piece). move (pieceMove u rd f p) (onUnit u m i s)) (sym this-piece) ∙ no-piece u rd f piece (onUnit u m i s) (omega arith))
+  piece-nothing rd h = sym (no-piece u rd f piece (onUnit u m i s) (omega arith)) ∙ this-piece rd
 
   pub piece-read : (rd : Bool) → rd ≡ true → (m′ : List ℕ) → m′ ≡ sets m (x .address + skip) (take (end - skip) (drop (f + (b + skip)) i))
       → onUnit u m′ i s ≡ move (pieceMove u rd f (pieceOf (rangeOf x) b lo hi)) (onUnit u m i s)
-  unfolding move get
-  piece-read rd e m′ em =
-      ap (λ (l : List ℕ). onUnit u l i s) em
-      ∙ sym (put-memory u m i s (take (end - skip) (drop (f + (b + skip)) i)) (x .address + skip))
-      ∙ ap (λ (l : List ℕ). put memory (x .address + skip) (take (end - skip) (drop (f + (b + skip)) l)) (onUnit u m i s)) (sym (unit-disk u m i s))
-      ∙ ap₂ (λ (r : Bool) (p : Piece). move (pieceMove u r f p) (onUnit u m i s)) (sym e) this-piece
+  piece-read rd e m′ em = part-read u m i s (x .address + skip) (f + (b + skip)) (end - skip) rd e m′ em ∙ this-piece rd
 
   pub piece-written : (rd : Bool) → rd ≡ false → (i′ : List ℕ) → i′ ≡ sets i (f + (b + skip)) (take (end - skip) (drop (x .address + skip) m))
       → onUnit u m i′ s ≡ move (pieceMove u rd f (pieceOf (rangeOf x) b lo hi)) (onUnit u m i s)
-  unfolding move get
-  piece-written rd e i′ ei =
-      ap (λ (l : List ℕ). onUnit u m l s) ei
-      ∙ sym (put-disk u m i s (take (end - skip) (drop (x .address + skip) m)) (f + (b + skip)))
-      ∙ ap₂ (λ (r : Bool) (p : Piece). move (pieceMove u r f p) (onUnit u m i s)) (sym e) this-piece
+  piece-written rd e i′ ei = part-written u m i s (x .address + skip) (f + (b + skip)) (end - skip) rd e i′ ei ∙ this-piece rd
 
 -- ---- a loop through the ranges of a list: what is left to move, moved from here on, is the whole
 

@@ -8,7 +8,7 @@ use Rattle.meaning.specs.Store.{Store, memory, disk, area, Move, copy, moves}
 use Rattle.meaning.specs.Sectors.{sectorBytes}
 use Rattle.meaning.specs.Ranges.{Range}
 use Rattle.meaning.specs.Pieces.{Piece, piecesOf}
-use Rattle.meaning.specs.Step.{inMemory, sectorMove, stepped}
+use Rattle.meaning.specs.Step.{sectorMove, stepped}
 
 unfoldable pub sectorsMoved : ℕ → Record → Store → Store
 unfolding moves sectorMove stepped
@@ -19,11 +19,15 @@ sectorsMoved (suc k) r s = sectorsMoved k (stepped r) (moves (sectorMove r (r .t
 abbrev pub onDisk : Record → ℕ
 onDisk r = sectorBytes * r .sector
 
--- a piece of data that begins at `from` on the disk of unit u: to memory where it is read, to the disk where it is written
+-- so many bytes that lie side by side in memory and on the disk of unit u: to memory where they are read, to the disk where they are written
+abbrev pub partMove : ℕ → Bool → ℕ → ℕ → ℕ → Move
+partMove u reading inMemory onDisk many =
+    cond reading (copy (area (disk u) onDisk many) memory inMemory)
+    (copy (area memory inMemory many) (disk u) onDisk)
+
+-- a piece of data that begins at `from` on the disk of unit u
 abbrev pub pieceMove : ℕ → Bool → ℕ → Piece → Move
-pieceMove u reading from p =
-    cond reading (copy (area (disk u) (from + p .at) (p .many)) memory (inMemory p .from))
-    (copy (inMemory p) (disk u) (from + p .at))
+pieceMove u reading from p = partMove u reading (p .from) (from + p .at) (p .many)
 
 -- bytes lo up to hi of the data in these ranges, of which the first is byte b of the data
 unfoldable pub windowMoved : ℕ → Bool → ℕ → List Range → ℕ → ℕ → ℕ → Store → Store

@@ -6,6 +6,7 @@ use chain::sizes;
 use command::sound;
 use meaning::LentDrives;
 use meaning::Record;
+use units::rooms;
 ghost use mathlib.Core.Path.{_≡_};
 ghost use Rattle.meaning.specs.Store.{lent, images};
 ghost use Rattle.meaning.specs.Drives.{drivesOf};
@@ -73,7 +74,8 @@ pub fn pick_seen<'a>(
     if seen.blocked {
         return refused(6);
     }
-    if sound::bad_record(memory.len() as u64, l, r) {
+    let room = rooms::room_in(units::drive_of(l, r.unit));
+    if sound::bad_record(memory.len() as u64, room, r) {
         return refused(9);
     }
     step::take_steps(memory, image0, image1, image2, image3, l, r, 1);

@@ -9,6 +9,7 @@ use command::touch;
 use meaning::LentDrives;
 use meaning::Ran;
 use meaning::Record;
+use units::rooms;
 ghost use mathlib.Core.Path.{_≡_};
 ghost use Prim.Native.Nat.{_+_, _*_, _≤_, _<_, min};
 ghost use mathlib.Core.Bool.{_||_};
@@ -181,11 +182,12 @@ pub fn picks_taken<'a>(
         left: 0,
         spoiled: RECORDS < commands,
     };
+    let rooms = rooms::rooms_of(l);
     let mut k = 0;
     while k < RECORDS {
         let r = table[k];
         taken[k] = r.taken;
-        let j = sound::judge(memory.len() as u64, l, r);
+        let j = sound::judge(memory.len() as u64, rooms, r);
         let f = j.footprint;
         footprints[k] = f;
         seen = with_record(seen, k < commands, j.bad, command::remaining(r));
@@ -279,11 +281,13 @@ pub fn written_taken<'a>(
         left: 0,
         spoiled: RECORDS < commands,
     };
+    let rooms = rooms::rooms_of(l);
     let mut k = 0;
     while k < RECORDS {
         let r = table[k];
         taken[k] = r.taken;
-        let bad = sound::bad_record(memory.len() as u64, l, table[k]);
+        let room = rooms::room_of(rooms, r.unit);
+        let bad = sound::bad_record(memory.len() as u64, room, table[k]);
         seen = with_record(seen, k < commands, bad, command::remaining(r));
         k += 1;
     }

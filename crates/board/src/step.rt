@@ -7,8 +7,6 @@ use meaning::LentDrives;
 use meaning::Link;
 use meaning::Record;
 ghost use mathlib.Core.Path.{_≡_};
-ghost use mathlib.Core.Logic.{_≢_};
-ghost use mathlib.Core.Bool.{true};
 ghost use mathlib.Core.List.{[], map};
 ghost use Prim.Native.Nat.{_+_, _-_, _*_, _≤_, min};
 ghost use lib.ListN.{length, getD, take, drop};
@@ -19,14 +17,14 @@ ghost use Rattle.meaning.specs.Drives.{drivesOf};
 ghost use Rattle.meaning.specs.Store.{Store, lent, images, move};
 ghost use Rattle.meaning.specs.Links.{rangeOf};
 ghost use Rattle.meaning.specs.Pieces.{pieceOf};
-ghost use Rattle.meaning.specs.Command.{transfers, remaining};
+ghost use Rattle.meaning.specs.Command.{remaining};
 ghost use Rattle.meaning.specs.Step as step;
 ghost use Rattle.meaning.proofs.All.{All};
 ghost use Rattle.meaning.proofs.Conditions.{Inside};
 ghost use Rattle.meaning.specs.Run.{stepsDone};
 ghost use Rattle.board.specs.OneUnit.{onUnit};
 ghost use Rattle.board.specs.Ready.{Ready};
-ghost use Rattle.board.specs.Moved.{sectorsMoved, pieceMove, windowMoved};
+ghost use Rattle.board.specs.Moved.{sectorsMoved, partMove, pieceMove, windowMoved};
 
 // The bytes of a sector, as a place in memory or image counts them.
 const SECTOR_BYTES: usize = drive::SECTOR_BYTES as usize;
@@ -142,54 +140,29 @@ fn move_pieces(
     }
 }
 
-// The sectors of the next n steps of a transfer with a list.
-fn move_listed(memory: &mut [u8], image: &mut [u8], r: Record, n: u32)
-    requires { ⌜ Ready n r (length (now memory)) (length (now image)) × (transfers r ≡ true) × (r .ranges ≢ 0) ⌝ }
-    ensures { λ _. ⌜ ((s : Store) → onUnit (r .unit) (now (memory .exit)) (now (image .exit)) s ≡ sectorsMoved n r (onUnit (r .unit) (now (memory .entry)) (now (image .entry)) s)) ⌝ }
+// So many sectors that lie side by side in memory too, there from the byte `at` on and on the disk from the byte `disk` on: they move between
+// memory and image, to memory where `reading`.
+fn move_plain(
+    memory: &mut [u8],
+    image: &mut [u8],
+    reading: bool,
+    at: usize,
+    disk: usize,
+    sectors: usize,
+)
+    requires { ⌜ (at + sectorBytes * sectors ≤ length (now memory)) × (disk + sectorBytes * sectors ≤ length (now image)) ⌝ }
+    ensures { λ _. ⌜ ((u : ℕ) (s : Store) → onUnit u (now (memory .exit)) (now (image .exit)) s ≡ move (partMove u reading at disk (sectorBytes * sectors)) (onUnit u (now (memory .entry)) (now (image .entry)) s)) ⌝ }
 {
-    let reading = command::reads(r);
-    let disk = SECTOR_BYTES * r.sector as usize;
-    let lo = SECTOR_BYTES * r.taken as usize;
-    let hi = lo + SECTOR_BYTES * n as usize;
-    let list = r.list;
-    move_pieces(memory, image, reading, disk, list, r.ranges, lo, hi);
+    if reading {
+        copy_sectors(image, disk, memory, at, sectors);
+        return;
+    }
+    copy_sectors(memory, at, image, disk, sectors);
 }
 
-// The sectors of the next n steps of a command without a list: they lie side by side in memory too. A command that is no transfer moves none.
-fn move_plain(memory: &mut [u8], image: &mut [u8], r: Record, n: u32)
-    requires { ⌜ (1 ≤ n) × Ready n r (length (now memory)) (length (now image)) × (r .ranges ≡ 0) ⌝ }
-    ensures { λ _. ⌜ ((s : Store) → onUnit (r .unit) (now (memory .exit)) (now (image .exit)) s ≡ sectorsMoved n r (onUnit (r .unit) (now (memory .entry)) (now (image .entry)) s)) ⌝ }
-{
-    let step = r.taken as usize;
-    let on_disk = SECTOR_BYTES * (r.sector as usize + step);
-    let in_memory = r.address as usize + SECTOR_BYTES * step;
-    let sectors = n as usize;
-    if command::reads(r) {
-        copy_sectors(image, on_disk, memory, in_memory, sectors);
-        return;
-    }
-    if command::writes(r) {
-        copy_sectors(memory, in_memory, image, on_disk, sectors);
-        return;
-    }
-}
-
-// The sectors of the next n steps of a command move between memory and image.
-fn move_sectors(memory: &mut [u8], image: &mut [u8], r: Record, n: u32)
-    requires { ⌜ (1 ≤ n) × Ready n r (length (now memory)) (length (now image)) ⌝ }
-    ensures { λ _. ⌜ ((s : Store) → onUnit (r .unit) (now (memory .exit)) (now (image .exit)) s ≡ sectorsMoved n r (onUnit (r .unit) (now (memory .entry)) (now (image .entry)) s)) ⌝ }
-{
-    if r.ranges == 0 {
-        move_plain(memory, image, r, n);
-        return;
-    }
-    if command::transfers(r) {
-        move_listed(memory, image, r, n);
-        return;
-    }
-}
-
-// The same between memory and the image of the command's own unit. A command that is no transfer moves none, whatever its unit.
+// The sectors of the next n steps of a command move between memory and the image of its own unit. A command that is no transfer moves none,
+// whatever its unit. The functions beneath get numbers and no record, and the list is taken out of the record only where there is one: to
+// copy its 256 bytes four times over, or for a command that has none, costs time.
 fn move_on_unit(
     memory: &mut [u8],
     image0: &mut [u8],
@@ -205,19 +178,46 @@ fn move_on_unit(
     if !command::transfers(r) {
         return;
     }
+    let reading = command::reads(r);
+    let disk = SECTOR_BYTES * r.sector as usize;
+    let lo = SECTOR_BYTES * r.taken as usize;
+    let sectors = n as usize;
+    let hi = lo + SECTOR_BYTES * sectors;
+    let at = r.address as usize + lo;
+    let on_disk = disk + lo;
     if r.unit == 0 {
-        move_sectors(memory, image0, r, n);
+        if r.ranges == 0 {
+            move_plain(memory, image0, reading, at, on_disk, sectors);
+            return;
+        }
+        let list = r.list;
+        move_pieces(memory, image0, reading, disk, list, r.ranges, lo, hi);
         return;
     }
     if r.unit == 1 {
-        move_sectors(memory, image1, r, n);
+        if r.ranges == 0 {
+            move_plain(memory, image1, reading, at, on_disk, sectors);
+            return;
+        }
+        let list = r.list;
+        move_pieces(memory, image1, reading, disk, list, r.ranges, lo, hi);
         return;
     }
     if r.unit == 2 {
-        move_sectors(memory, image2, r, n);
+        if r.ranges == 0 {
+            move_plain(memory, image2, reading, at, on_disk, sectors);
+            return;
+        }
+        let list = r.list;
+        move_pieces(memory, image2, reading, disk, list, r.ranges, lo, hi);
         return;
     }
-    move_sectors(memory, image3, r, n);
+    if r.ranges == 0 {
+        move_plain(memory, image3, reading, at, on_disk, sectors);
+        return;
+    }
+    let list = r.list;
+    move_pieces(memory, image3, reading, disk, list, r.ranges, lo, hi);
 }
 
 // The next n steps of a command: its sectors move, and the last step then closes the command. Nothing else closes it.

@@ -112,11 +112,12 @@ fn sector_above(c: Copied, d: Drive) -> bool
     drive::above(drive::maximum_on(d, c.head), c.sector as u32)
 }
 
-// The test for the end of the drive: of the command's sectors.
-fn drive_end(c: Copied, d: Drive) -> End
+// The test for the end of the drive: of the command's sectors, where `first` is the number of the first of them.
+fn drive_end(c: Copied, d: Drive, first: u32) -> End
+    requires { ⌜ first ≡ firstSector d c ⌝ }
     ensures { λ r. ⌜ r ≡ driveEnd d (firstSector d c) (c .count) ⌝ }
 {
-    ends::drive_end(d, first_sector(c, d), c.count)
+    ends::drive_end(d, first, c.count)
 }
 
 // Write Data and the drive is protected.
@@ -134,8 +135,9 @@ fn memory_end(c: Copied, memory: u64) -> End
     ends::memory_end(memory, c.address, many)
 }
 
-// What is fixed of a transfer, before its data is looked at.
-fn transfer_verdict(c: Copied, d: Drive) -> Verdict
+// What is fixed of a transfer, before its data is looked at. `first` is the number of its first sector.
+fn transfer_verdict(c: Copied, d: Drive, first: u32) -> Verdict
+    requires { ⌜ first ≡ firstSector d c ⌝ }
     ensures { λ v. ⌜ v ≡ verdictOf (transferRows c d) ⌝ }
 {
     if !d.present {
@@ -153,7 +155,7 @@ fn transfer_verdict(c: Copied, d: Drive) -> Verdict
     if sector_above(c, d) {
         return fixed(0x12, 0);
     }
-    let end = drive_end(c, d);
+    let end = drive_end(c, d, first);
     if end.past {
         return ended(0x10, end);
     }
@@ -164,7 +166,9 @@ fn transfer_verdict(c: Copied, d: Drive) -> Verdict
 }
 
 // What is fixed of a command by the rows that do not look at its data: what every command is asked, and then what a transfer is asked.
-pub(crate) fn early_verdict(c: Copied, d: Drive) -> Verdict
+// `first` is the number of its first sector.
+pub(crate) fn early_verdict(c: Copied, d: Drive, first: u32) -> Verdict
+    requires { ⌜ first ≡ firstSector d c ⌝ }
     ensures { λ v. ⌜ v ≡ verdictOf (earlyRows c d) ⌝ }
 {
     if misaligned(c) {
@@ -176,7 +180,7 @@ pub(crate) fn early_verdict(c: Copied, d: Drive) -> Verdict
     if c.byte0 % 16 == 0 {
         return fixed(0x00, 0);
     }
-    transfer_verdict(c, d)
+    transfer_verdict(c, d, first)
 }
 
 // How many elements the link list has: bits 7-3 of byte 6, where 0 means 32.

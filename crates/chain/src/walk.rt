@@ -36,7 +36,8 @@ pub struct Found {
 fn record_of(memory: &[u8], c: Copied, at: u32, d: Drive) -> Record
     ensures { λ r. ⌜ r ≡ recordOf c at d (now (memory .entry)) ⌝ }
 {
-    let early = code::early_verdict(c, d);
+    let first = code::first_sector(c, d);
+    let early = code::early_verdict(c, d, first);
     let length = memory.len() as u64;
     let ranges = code::links_to_read(c, early.code, length);
     let list = links::links_at(memory, c.address as usize, ranges as usize);
@@ -44,7 +45,7 @@ fn record_of(memory: &[u8], c: Copied, at: u32, d: Drive) -> Record
     Record {
         iopb: at,
         address: c.address,
-        sector: code::first_sector(c, d),
+        sector: first,
         taken: 0,
         ranges,
         count: c.count,
@@ -190,12 +191,13 @@ pub fn plain_record_at(memory: &[u8], l: LentDrives, at: u32) -> Record
     let list = links::no_links();
     let c = code::copied(memory, at);
     let d = units::drive_of(l, c.unit);
-    let early = code::early_verdict(c, d);
+    let first = code::first_sector(c, d);
+    let early = code::early_verdict(c, d, first);
     let verdict = code::final_verdict(c, early, memory.len() as u64, list, 0);
     Record {
         iopb: at,
         address: c.address,
-        sector: code::first_sector(c, d),
+        sector: first,
         taken: 0,
         ranges: 0,
         count: c.count,

@@ -199,11 +199,14 @@ fn hulls_meet(f: Hull, g: Hull) -> bool
     larger(f.low, g.low) < smaller(f.high, g.high)
 }
 
-// The status bytes of the one have a byte in common with the hull of the other.
+// The status bytes of the one have a byte in common with the hull of the other. Mostly they end before it begins, so this is asked first.
 fn status_meets(f: Footprint, g: Footprint) -> bool
     ensures { λ b. ⌜ b ≡ statusMeets f g ⌝ }
 {
     let from = begins(f.status);
+    if from + STATUS_BYTES <= g.hull.low {
+        return false;
+    }
     larger(from, g.hull.low) < smaller(from + STATUS_BYTES, g.hull.high)
 }
 

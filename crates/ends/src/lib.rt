@@ -13,7 +13,7 @@ ghost use Rattle.meaning.specs.Ends.{driveEnd, memoryEnd, asByte};
 const MOST_POSTED: u8 = 255;
 
 // So many from a start on go past an end. The sum has 64 bits, since it may be more than 32 hold.
-fn goes_past(end: u64, start: u32, many: u32) -> bool
+pub fn goes_past(end: u64, start: u32, many: u32) -> bool
     ensures { λ r. ⌜ r ≡ ltb end (start + many) ⌝ }
 {
     end < start as u64 + many as u64

@@ -11,6 +11,7 @@ use command::touch;
 use meaning::LentDrives;
 use meaning::Ran;
 use meaning::Record;
+use units::rooms;
 ghost use mathlib.Core.Path.{_≡_};
 ghost use mathlib.Core.Bool.{cond};
 ghost use Prim.Native.Nat.{_≤_, _<_};
@@ -96,8 +97,9 @@ pub(crate) fn look_over(
     let mut bad = false;
     let mut blocked = false;
     let mut k = 0;
+    let rooms = rooms::rooms_of(l);
     while k < n {
-        let seen = sound::look(memory, l, table[k], wanted, k < place);
+        let seen = sound::look(memory, rooms, table[k], wanted, k < place);
         bad = bad | seen.bad;
         if seen.near {
             blocked = blocked | touch::ranges_conflict(table[k], table[place]);

@@ -11,6 +11,7 @@ use meaning::LentDrives;
 use meaning::PickedTable;
 use meaning::RanTable;
 use meaning::Record;
+use units::rooms;
 ghost use mathlib.Core.Path.{_≡_};
 ghost use Prim.Native.Nat.{_≤_, _<_};
 ghost use Rattle.meaning.specs.Store.{lent, images};
@@ -68,8 +69,9 @@ fn look_over(table: [Record; 32], memory: u64, l: LentDrives, n: usize, place: u
     let mut bad = false;
     let mut blocked = false;
     let mut k = 0;
+    let rooms = rooms::rooms_of(l);
     while k < n {
-        let seen = sound::look(memory, l, table[k], wanted, k < place);
+        let seen = sound::look(memory, rooms, table[k], wanted, k < place);
         bad = bad | seen.bad;
         if seen.near {
             blocked = blocked | touch::ranges_conflict(table[k], table[place]);

@@ -1,6 +1,7 @@
-// The units: which drive each has, whether the images of those that are there have the right sizes, and a look at one sector of a unit.
-// Nothing of what is lent for an absent unit is looked at.
+// The units: which drive each has, whether the images of those that are there have the right sizes, how much room each has, and a look at
+// one sector of a unit. Nothing of what is lent for an absent unit is looked at.
 pub mod look;
+pub mod rooms;
 
 use meaning::Drive;
 use meaning::LentDrives;
@@ -12,9 +13,6 @@ ghost use Rattle.meaning.specs.Store.{lent, images};
 ghost use Rattle.meaning.specs.Sectors.{imageRight};
 ghost use Rattle.meaning.specs.Drives as drives;
 ghost use Rattle.meaning.specs.Sizes.{imagesWrong};
-
-// How many units there are: every one above 3 is absent.
-pub const UNITS: u8 = 4;
 
 // What an absent unit counts as: all maxima 0, and open.
 fn no_drive() -> Drive
@@ -37,13 +35,22 @@ fn there(d: Drive) -> Drive
     if d.present { d } else { no_drive() }
 }
 
-// The drive of a unit.
+// The drive of a unit. It is found by comparing and not by an index, so that the compiler keeps the four drives in registers.
 pub fn drive_of(l: LentDrives, unit: u8) -> Drive
     ensures { λ d. ⌜ d ≡ drives.driveOf l unit ⌝ }
 {
-    if unit < UNITS {
-        let units = l.units;
-        return there(units[unit as usize]);
+    let units = l.units;
+    if unit == 0 {
+        return there(units[0]);
+    }
+    if unit == 1 {
+        return there(units[1]);
+    }
+    if unit == 2 {
+        return there(units[2]);
+    }
+    if unit == 3 {
+        return there(units[3]);
     }
     no_drive()
 }

@@ -1,13 +1,15 @@
 -- `board::pick::pick_seen` meets its contract: each test decides a row of the numbers, and past all of them the step lies within memory and
 -- image.
-use mathlib.Core.Path.{sym, _∙_}
+use mathlib.Core.Path.{sym, ap, _∙_}
+use lib.ListN.{length}
 use native.Mathlib.Omega.{arith}
 use mathlib.Core.Bool.{true, false}
 use Rattle.meaning.specs.Store.{lent, images}
 use Rattle.meaning.specs.Drives.{drivesOf}
 use Rattle.meaning.specs.Command.{remaining}
 use Rattle.meaning.proofs.Records.{unfinished-some}
-use Rattle.command.proofs.Data.{bad-in}
+use Rattle.units.specs.Rooms.{roomIn}
+use Rattle.command.proofs.Data.{bad-in, by-own-room}
 use Rattle.board.proofs.Moving.{ready, one-step, steps-small}
 use Rattle.board.proofs.Picking.{wrong-sizes, too-many, some-bad, not-there, at-end, kept-waiting, goes-by, refused-sees, accepted-sees}
 use borrow.Author.Needs.{needs}
@@ -152,6 +154,12 @@ returns-6 : tie.Need-returns-6
 returns-6 c = let a = c .before .before .before .before .before .before .before .before .before .before .before .before .before .before .before .before .before .before .before .args in let s = lent (a .memory .now) (images (a .image0 .now) (a .image1 .now) (a .image2 .now) (a .image3 .now)) in
     refused-sees (drivesOf (a .l)) (a .commands) (a .place) (a .r) (a .seen) s 6 (c .refused6 .result) (c .refused6 .ensures) (kept-waiting (drivesOf (a .l)) (a .commands) (a .place) (a .r) (a .seen) s (sym (c .before .before .before .before .before .before .before .before .sizes-wrong .ensures) ∙ c .before .before .before .before .before .before .before .if1 .left) (c .before .before .before .before .before .before .if2 .left) (c .before .before .before .before .before .if3 .left) (c .before .before .before .before .if4 .left) (sym (c .before .before .before .finished .ensures) ∙ c .before .before .if5 .left) (c .before .if6 .taken)) (λ e. omega arith)
 
+drive-of-requires : tie.Need-drive-of-requires
+drive-of-requires c κs = search needs
+
+room-in-requires : tie.Need-room-in-requires
+room-in-requires c κs = search needs
+
 bad-record-requires : tie.Need-bad-record-requires
 bad-record-requires c κs = search needs
 
@@ -174,17 +182,17 @@ same-length-35 : tie.Need-same-length-35
 same-length-35 c = search needs
 
 returns-7 : tie.Need-returns-7
-returns-7 c = let a = c .before .before .before .before .before .before .before .before .before .before .before .before .before .before .before .before .before .before .before .before .before .args in let s = lent (a .memory .now) (images (a .image0 .now) (a .image1 .now) (a .image2 .now) (a .image3 .now)) in
-    refused-sees (drivesOf (a .l)) (a .commands) (a .place) (a .r) (a .seen) s 9 (c .refused7 .result) (c .refused7 .ensures) (goes-by (drivesOf (a .l)) (a .commands) (a .place) (a .r) (a .seen) s (sym (c .before .before .before .before .before .before .before .before .before .before .sizes-wrong .ensures) ∙ c .before .before .before .before .before .before .before .before .before .if1 .left) (c .before .before .before .before .before .before .before .before .if2 .left) (c .before .before .before .before .before .before .before .if3 .left) (c .before .before .before .before .before .before .if4 .left) (sym (c .before .before .before .before .before .finished .ensures) ∙ c .before .before .before .before .if5 .left) (c .before .before .before .if6 .left) true (bad-in (drivesOf (a .l)) s (sym (c .before .before .before .before .before .before .before .before .before .before .sizes-wrong .ensures) ∙ c .before .before .before .before .before .before .before .before .before .if1 .left) (a .r) ∙ sym (c .before .before .bad-record .ensures) ∙ c .before .if7 .taken)) (λ e. omega arith)
+returns-7 c = let a = c .before .before .before .before .before .before .before .before .before .before .before .before .before .before .before .before .before .before .before .before .before .before .before .args in let s = lent (a .memory .now) (images (a .image0 .now) (a .image1 .now) (a .image2 .now) (a .image3 .now)) in
+    refused-sees (drivesOf (a .l)) (a .commands) (a .place) (a .r) (a .seen) s 9 (c .refused7 .result) (c .refused7 .ensures) (goes-by (drivesOf (a .l)) (a .commands) (a .place) (a .r) (a .seen) s (sym (c .before .before .before .before .before .before .before .before .before .before .before .before .sizes-wrong .ensures) ∙ c .before .before .before .before .before .before .before .before .before .before .before .if1 .left) (c .before .before .before .before .before .before .before .before .before .before .if2 .left) (c .before .before .before .before .before .before .before .before .before .if3 .left) (c .before .before .before .before .before .before .before .before .if4 .left) (sym (c .before .before .before .before .before .before .before .finished .ensures) ∙ c .before .before .before .before .before .before .if5 .left) (c .before .before .before .before .before .if6 .left) true (bad-in (drivesOf (a .l)) s (sym (c .before .before .before .before .before .before .before .before .before .before .before .before .sizes-wrong .ensures) ∙ c .before .before .before .before .before .before .before .before .before .before .before .if1 .left) (a .r) ∙ sym (c .before .before .bad-record .ensures ∙ by-own-room (length (a .memory .now)) (drivesOf (a .l)) (a .r) _ (c .before .before .before .room-in .ensures ∙ ap roomIn (c .before .before .before .before .drive-of .ensures))) ∙ c .before .if7 .taken)) (λ e. omega arith)
 
 take-steps-requires : tie.Need-take-steps-requires
-take-steps-requires c κs = let a = c .before .before .before .before .before .before .before .before .before .before .before .before .before .before .before .before .before .before .before .before .before .before .before .before .before .args in let s = lent (a .memory .now) (images (a .image0 .now) (a .image1 .now) (a .image2 .now) (a .image3 .now)) in let some = unfinished-some (a .r) (sym (c .before .before .before .before .before .before .before .before .before .finished .ensures) ∙ c .before .before .before .before .before .before .before .before .if5 .left) in
-    (some, ready (drivesOf (a .l)) s (a .r) 1 (sym (c .before .before .before .before .before .before .before .before .before .before .before .before .before .before .sizes-wrong .ensures) ∙ c .before .before .before .before .before .before .before .before .before .before .before .before .before .if1 .left) (bad-in (drivesOf (a .l)) s (sym (c .before .before .before .before .before .before .before .before .before .before .before .before .before .before .sizes-wrong .ensures) ∙ c .before .before .before .before .before .before .before .before .before .before .before .before .before .if1 .left) (a .r) ∙ sym (c .before .before .before .before .before .before .bad-record .ensures) ∙ c .before .before .before .before .before .if7 .left) some)
+take-steps-requires c κs = let a = c .before .before .before .before .before .before .before .before .before .before .before .before .before .before .before .before .before .before .before .before .before .before .before .before .before .before .before .args in let s = lent (a .memory .now) (images (a .image0 .now) (a .image1 .now) (a .image2 .now) (a .image3 .now)) in let some = unfinished-some (a .r) (sym (c .before .before .before .before .before .before .before .before .before .before .before .finished .ensures) ∙ c .before .before .before .before .before .before .before .before .before .before .if5 .left) in
+    (some, ready (drivesOf (a .l)) s (a .r) 1 (sym (c .before .before .before .before .before .before .before .before .before .before .before .before .before .before .before .before .sizes-wrong .ensures) ∙ c .before .before .before .before .before .before .before .before .before .before .before .before .before .before .before .if1 .left) (bad-in (drivesOf (a .l)) s (sym (c .before .before .before .before .before .before .before .before .before .before .before .before .before .before .before .before .sizes-wrong .ensures) ∙ c .before .before .before .before .before .before .before .before .before .before .before .before .before .before .before .if1 .left) (a .r) ∙ sym (c .before .before .before .before .before .before .bad-record .ensures ∙ by-own-room (length (a .memory .now)) (drivesOf (a .l)) (a .r) _ (c .before .before .before .before .before .before .before .room-in .ensures ∙ ap roomIn (c .before .before .before .before .before .before .before .before .drive-of .ensures))) ∙ c .before .before .before .before .before .if7 .left) some)
 
-add-t38 : tie.Need-add-t38
+add-t40 : tie.Need-add-t40
 unfolding remaining
-add-t38 c = let a = c .before .before .before .before .before .before .before .before .before .before .before .before .before .before .before .before .before .before .before .before .before .before .before .before .before .before .before .before .before .before .before .before .before .before .before .before .before .args in
-    let some = unfinished-some (a .r) (sym (c .before .before .before .before .before .before .before .before .before .before .before .before .before .before .before .before .before .before .before .before .before .finished .ensures) ∙ c .before .before .before .before .before .before .before .before .before .before .before .before .before .before .before .before .before .before .before .before .if5 .left) in let small = steps-small (a .r) (omega arith) in omega (arith, some, small)
+add-t40 c = let a = c .before .before .before .before .before .before .before .before .before .before .before .before .before .before .before .before .before .before .before .before .before .before .before .before .before .before .before .before .before .before .before .before .before .before .before .before .before .before .before .args in
+    let some = unfinished-some (a .r) (sym (c .before .before .before .before .before .before .before .before .before .before .before .before .before .before .before .before .before .before .before .before .before .before .before .finished .ensures) ∙ c .before .before .before .before .before .before .before .before .before .before .before .before .before .before .before .before .before .before .before .before .before .before .if5 .left) in let small = steps-small (a .r) (omega arith) in omega (arith, some, small)
 
 same-length-36 : tie.Need-same-length-36
 same-length-36 c = search needs
@@ -202,9 +210,9 @@ same-length-40 : tie.Need-same-length-40
 same-length-40 c = search needs
 
 returns-8 : tie.Need-returns-8
-returns-8 c = let a = c .before .before .before .before .before .before .before .before .before .before .before .before .before .before .before .before .before .before .before .before .before .before .before .before .before .before .before .before .before .before .before .before .before .before .before .before .before .args in let s = lent (a .memory .now) (images (a .image0 .now) (a .image1 .now) (a .image2 .now) (a .image3 .now)) in
+returns-8 c = let a = c .before .before .before .before .before .before .before .before .before .before .before .before .before .before .before .before .before .before .before .before .before .before .before .before .before .before .before .before .before .before .before .before .before .before .before .before .before .before .before .args in let s = lent (a .memory .now) (images (a .image0 .now) (a .image1 .now) (a .image2 .now) (a .image3 .now)) in
     accepted-sees (drivesOf (a .l)) (a .commands) (a .place) (a .r) (a .seen) s _
-    (goes-by (drivesOf (a .l)) (a .commands) (a .place) (a .r) (a .seen) s (sym (c .before .before .before .before .before .before .before .before .before .before .before .before .before .before .before .before .before .before .before .before .before .before .before .before .before .before .sizes-wrong .ensures) ∙ c .before .before .before .before .before .before .before .before .before .before .before .before .before .before .before .before .before .before .before .before .before .before .before .before .before .if1 .left) (c .before .before .before .before .before .before .before .before .before .before .before .before .before .before .before .before .before .before .before .before .before .before .before .before .if2 .left) (c .before .before .before .before .before .before .before .before .before .before .before .before .before .before .before .before .before .before .before .before .before .before .before .if3 .left) (c .before .before .before .before .before .before .before .before .before .before .before .before .before .before .before .before .before .before .before .before .before .before .if4 .left) (sym (c .before .before .before .before .before .before .before .before .before .before .before .before .before .before .before .before .before .before .before .before .before .finished .ensures) ∙ c .before .before .before .before .before .before .before .before .before .before .before .before .before .before .before .before .before .before .before .before .if5 .left) (c .before .before .before .before .before .before .before .before .before .before .before .before .before .before .before .before .before .before .before .if6 .left) false (bad-in (drivesOf (a .l)) s (sym (c .before .before .before .before .before .before .before .before .before .before .before .before .before .before .before .before .before .before .before .before .before .before .before .before .before .before .sizes-wrong .ensures) ∙ c .before .before .before .before .before .before .before .before .before .before .before .before .before .before .before .before .before .before .before .before .before .before .before .before .before .if1 .left) (a .r) ∙ sym (c .before .before .before .before .before .before .before .before .before .before .before .before .before .before .before .before .before .before .bad-record .ensures) ∙ c .before .before .before .before .before .before .before .before .before .before .before .before .before .before .before .before .before .if7 .left))
+    (goes-by (drivesOf (a .l)) (a .commands) (a .place) (a .r) (a .seen) s (sym (c .before .before .before .before .before .before .before .before .before .before .before .before .before .before .before .before .before .before .before .before .before .before .before .before .before .before .before .before .sizes-wrong .ensures) ∙ c .before .before .before .before .before .before .before .before .before .before .before .before .before .before .before .before .before .before .before .before .before .before .before .before .before .before .before .if1 .left) (c .before .before .before .before .before .before .before .before .before .before .before .before .before .before .before .before .before .before .before .before .before .before .before .before .before .before .if2 .left) (c .before .before .before .before .before .before .before .before .before .before .before .before .before .before .before .before .before .before .before .before .before .before .before .before .before .if3 .left) (c .before .before .before .before .before .before .before .before .before .before .before .before .before .before .before .before .before .before .before .before .before .before .before .before .if4 .left) (sym (c .before .before .before .before .before .before .before .before .before .before .before .before .before .before .before .before .before .before .before .before .before .before .before .finished .ensures) ∙ c .before .before .before .before .before .before .before .before .before .before .before .before .before .before .before .before .before .before .before .before .before .before .if5 .left) (c .before .before .before .before .before .before .before .before .before .before .before .before .before .before .before .before .before .before .before .before .before .if6 .left) false (bad-in (drivesOf (a .l)) s (sym (c .before .before .before .before .before .before .before .before .before .before .before .before .before .before .before .before .before .before .before .before .before .before .before .before .before .before .before .before .sizes-wrong .ensures) ∙ c .before .before .before .before .before .before .before .before .before .before .before .before .before .before .before .before .before .before .before .before .before .before .before .before .before .before .before .if1 .left) (a .r) ∙ sym (c .before .before .before .before .before .before .before .before .before .before .before .before .before .before .before .before .before .before .bad-record .ensures ∙ by-own-room (length (a .memory .now)) (drivesOf (a .l)) (a .r) _ (c .before .before .before .before .before .before .before .before .before .before .before .before .before .before .before .before .before .before .before .room-in .ensures ∙ ap roomIn (c .before .before .before .before .before .before .before .before .before .before .before .before .before .before .before .before .before .before .before .before .drive-of .ensures))) ∙ c .before .before .before .before .before .before .before .before .before .before .before .before .before .before .before .before .before .if7 .left))
     (c .before .before .before .before .before .before .before .before .before .before .before .take-steps .ensures ∙ one-step (drivesOf (a .l)) (a .r) s)
 
 pub pick-seen-spec : {M : Type 1} → statement M
@@ -255,6 +263,8 @@ pick-seen-spec =
     same-length-29
     same-length-30
     returns-6
+    drive-of-requires
+    room-in-requires
     bad-record-requires
     refused-requires-7
     same-length-31
@@ -264,7 +274,7 @@ pick-seen-spec =
     same-length-35
     returns-7
     take-steps-requires
-    add-t38
+    add-t40
     same-length-36
     same-length-37
     same-length-38

@@ -27,6 +27,7 @@ use Rattle.meaning.specs.Step.{withTaken}
 use Rattle.board.specs.Changes.{RunTakes}
 use Rattle.board.proofs.Moving.{steps-small}
 use Rattle.command.specs.declared.sound.Judged.{Judged}
+use Rattle.command.proofs.Data.{judged-by-rooms}
 use Rattle.board.specs.Opening.{seenWith}
 use Rattle.board.specs.Sight.{blocking}
 use Rattle.board.proofs.Searching.{none-more, some-here, searched-to}
@@ -39,11 +40,11 @@ use Rattle.board.proofs.run.picks_taken.Statement.{statement}
 use Rattle.board.proofs.run.picks_taken.Tie as tie
 
 abbrev Inv-loop : tie.InvT-loop
-Inv-loop m image0 image1 image2 image3 drives many commands picks table taken₀ footprints₀ seen₀ k₀ taken footprints seen k =
+Inv-loop m image0 image1 image2 image3 drives many commands picks table taken₀ footprints₀ seen₀ rooms k₀ taken footprints seen k =
     Opened (drivesOf drives) commands (stateIn (lent m (images image0 image1 image2 image3)) table) taken seen k × Footprinted table footprints k
 
 abbrev μ-loop : tie.MeasureT-loop
-μ-loop m image0 image1 image2 image3 drives many commands picks table taken₀ footprints₀ seen₀ k₀ taken footprints seen k =
+μ-loop m image0 image1 image2 image3 drives many commands picks table taken₀ footprints₀ seen₀ rooms k₀ taken footprints seen k =
     32 - k
 
 abbrev Inv-loop2 : tie.InvT-loop2
@@ -66,68 +67,68 @@ abbrev μ-picks : tie.MeasureT-picks
     length picks - next
 
 -- past the first loop a run that is not refused has been handed all of its table, and goes
-whole : (c : tie.Else1 Inv-loop μ-loop Inv-loop2 μ-loop2 Inv-picks μ-picks) → let a = (c .before .before .before .before .before .before .before .before .before .before .before .before .before .before .before .before .args) in let s = stateIn (lent (a .memory .now) (images (a .image0 .now) (a .image1 .now) (a .image2 .now) (a .image3 .now))) (a .t7) in handed (a .length) s ≡ s
-whole c = let a = c .before .before .before .before .before .before .before .before .before .before .before .before .before .before .before .before .args in
+whole : (c : tie.Else1 Inv-loop μ-loop Inv-loop2 μ-loop2 Inv-picks μ-picks) → let a = (c .before .before .before .before .before .before .before .before .before .before .before .before .before .before .before .before .before .args) in let s = stateIn (lent (a .memory .now) (images (a .image0 .now) (a .image1 .now) (a .image2 .now) (a .image3 .now))) (a .t7) in handed (a .length) s ≡ s
+whole c = let a = c .before .before .before .before .before .before .before .before .before .before .before .before .before .before .before .before .before .args in
     let l = c .before .before .before .before .before .before .before .before .loop in
     whole-handed (drivesOf (a .l)) (a .commands) (lent (a .memory .now) (images (a .image0 .now) (a .image1 .now) (a .image2 .now) (a .image3 .now))) (a .t7) (l .taken) (l .seen) (l .k) (l .inv .0) (c .before .before .before .before .before .before .before .loop-test .left) (a .length) (c .before .first-number .result) (c .before .first-number .ensures) (c .if1 .left)
 
-goes : (c : tie.Else1 Inv-loop μ-loop Inv-loop2 μ-loop2 Inv-picks μ-picks) → let a = (c .before .before .before .before .before .before .before .before .before .before .before .before .before .before .before .before .args) in runNumber (drivesOf (a .l)) (a .commands) (stateIn (lent (a .memory .now) (images (a .image0 .now) (a .image1 .now) (a .image2 .now) (a .image3 .now))) (a .t7)) ≡ 0
-goes c = let a = c .before .before .before .before .before .before .before .before .before .before .before .before .before .before .before .before .args in
+goes : (c : tie.Else1 Inv-loop μ-loop Inv-loop2 μ-loop2 Inv-picks μ-picks) → let a = (c .before .before .before .before .before .before .before .before .before .before .before .before .before .before .before .before .before .args) in runNumber (drivesOf (a .l)) (a .commands) (stateIn (lent (a .memory .now) (images (a .image0 .now) (a .image1 .now) (a .image2 .now) (a .image3 .now))) (a .t7)) ≡ 0
+goes c = let a = c .before .before .before .before .before .before .before .before .before .before .before .before .before .before .before .before .before .args in
     let l = c .before .before .before .before .before .before .before .before .loop in
     run-goes (drivesOf (a .l)) (a .commands) (lent (a .memory .now) (images (a .image0 .now) (a .image1 .now) (a .image2 .now) (a .image3 .now))) (a .t7) (l .taken) (l .seen) (l .k) (l .inv .0) (c .before .before .before .before .before .before .before .loop-test .left) (a .length) (c .before .first-number .result) (c .before .first-number .ensures) (c .if1 .left)
 
 -- the place that is picked is one of the 32
-in-table : (c : tie.Else2 Inv-loop μ-loop Inv-loop2 μ-loop2 Inv-picks μ-picks) → getD (c .before .before .before .before .before .before .before .before .before .before .before .before .before .before .before .before .before .before .before .before .args .picks .now) (c .before .before .before .picks .next) 0 < mostCommands
-in-table c = let a = c .before .before .before .before .before .before .before .before .before .before .before .before .before .before .before .before .before .before .before .before .args in
+in-table : (c : tie.Else2 Inv-loop μ-loop Inv-loop2 μ-loop2 Inv-picks μ-picks) → getD (c .before .before .before .before .before .before .before .before .before .before .before .before .before .before .before .before .before .before .before .before .before .args .picks .now) (c .before .before .before .picks .next) 0 < mostCommands
+in-table c = let a = c .before .before .before .before .before .before .before .before .before .before .before .before .before .before .before .before .before .before .before .before .before .args in
     let l = c .before .before .before .picks in
     let few = in-use-few (drivesOf (a .l)) (a .commands) (a .picks .now) (lent (a .memory .now) (images (a .image0 .now) (a .image1 .now) (a .image2 .now) (a .image3 .now))) (a .t7) (lent (l .memory) (images (l .image0) (l .image1) (l .image2) (l .image3))) (l .taken) (l .searched) (l .steps) (l .passed) (l .next) (l .inv) in
     omega (arith, few, (c .if2 .left))
 
 -- past the first loop every record has its footprint
-foot-at : (c : tie.Else1 Inv-loop μ-loop Inv-loop2 μ-loop2 Inv-picks μ-picks) (j : ℕ) → j < mostCommands → getD (c .before .before .before .before .before .before .before .before .loop .footprints) j noFootprint ≡ footprintOf (getD (c .before .before .before .before .before .before .before .before .before .before .before .before .before .before .before .before .args .t7) j noRecord)
+foot-at : (c : tie.Else1 Inv-loop μ-loop Inv-loop2 μ-loop2 Inv-picks μ-picks) (j : ℕ) → j < mostCommands → getD (c .before .before .before .before .before .before .before .before .loop .footprints) j noFootprint ≡ footprintOf (getD (c .before .before .before .before .before .before .before .before .before .before .before .before .before .before .before .before .before .args .t7) j noRecord)
 foot-at c j h = let e = c .before .before .before .before .before .before .before .loop-test .left in
     c .before .before .before .before .before .before .before .before .loop .inv .1 .each j (omega arith)
 
 -- the record at the place that is picked
-here : (c : tie.After-with-taken Inv-loop μ-loop Inv-loop2 μ-loop2 Inv-picks μ-picks) → let a = (c .before .before .before .before .before .before .before .before .before .before .before .before .before .before .before .before .before .before .before .before .before .before .args) in let l = (c .before .before .before .before .before .picks) in (c .with-taken .result) ≡ getD (tableWith (l .taken) (a .t7)) (getD (a .picks .now) (l .next) 0) noRecord
-here c = let a = c .before .before .before .before .before .before .before .before .before .before .before .before .before .before .before .before .before .before .before .before .before .before .args in
+here : (c : tie.After-with-taken Inv-loop μ-loop Inv-loop2 μ-loop2 Inv-picks μ-picks) → let a = (c .before .before .before .before .before .before .before .before .before .before .before .before .before .before .before .before .before .before .before .before .before .before .before .args) in let l = (c .before .before .before .before .before .picks) in (c .with-taken .result) ≡ getD (tableWith (l .taken) (a .t7)) (getD (a .picks .now) (l .next) 0) noRecord
+here c = let a = c .before .before .before .before .before .before .before .before .before .before .before .before .before .before .before .before .before .before .before .before .before .before .before .args in
     let l = c .before .before .before .before .before .picks in
     (c .with-taken .ensures) ∙ at-place (drivesOf (a .l)) (a .commands) (a .picks .now) (lent (a .memory .now) (images (a .image0 .now) (a .image1 .now) (a .image2 .now) (a .image3 .now))) (a .t7) (lent (l .memory) (images (l .image0) (l .image1) (l .image2) (l .image3))) (l .taken) (l .searched) (l .steps) (l .passed) (l .next) (l .inv) (getD (a .picks .now) (l .next) 0) (in-table (c .before .before))
 
-inside : (c : tie.In-loop2 Inv-loop μ-loop Inv-loop2 μ-loop2 Inv-picks μ-picks) → let a = (c .before .before .before .before .before .before .before .before .before .before .before .before .before .before .before .before .before .before .before .before .before .before .before .before .before .before .before .args) in let l = (c .before .before .before .before .before .before .before .before .before .before .picks) in (c .before .loop2 .earlier) < length (tableWith (l .taken) (a .t7))
-inside c = let a = c .before .before .before .before .before .before .before .before .before .before .before .before .before .before .before .before .before .before .before .before .before .before .before .before .before .before .before .args in
+inside : (c : tie.In-loop2 Inv-loop μ-loop Inv-loop2 μ-loop2 Inv-picks μ-picks) → let a = (c .before .before .before .before .before .before .before .before .before .before .before .before .before .before .before .before .before .before .before .before .before .before .before .before .before .before .before .before .args) in let l = (c .before .before .before .before .before .before .before .before .before .before .picks) in (c .before .loop2 .earlier) < length (tableWith (l .taken) (a .t7))
+inside c = let a = c .before .before .before .before .before .before .before .before .before .before .before .before .before .before .before .before .before .before .before .before .before .before .before .before .before .before .before .before .args in
     let l = c .before .before .before .before .before .before .before .before .before .before .picks in
     let h = in-table (c .before .before .before .before .before .before .before) in
     let b = c .loop2-test .taken in
     omega (arith, length-with (l .taken) (a .t7), l .inv .full)
 
 -- the record that the search has come to, and what of it is asked by footprints
-there : (c : tie.In-loop2 Inv-loop μ-loop Inv-loop2 μ-loop2 Inv-picks μ-picks) → let a = c .before .before .before .before .before .before .before .before .before .before .before .before .before .before .before .before .before .before .before .before .before .before .before .before .before .before .before .args in let l = c .before .before .before .before .before .before .before .before .before .before .picks in let k = c .before .loop2 .earlier in withTaken (getD (l .taken) k 0) (getD (a .t7) k noRecord) ≡ getD (tableWith (l .taken) (a .t7)) k noRecord
-there c = let a = c .before .before .before .before .before .before .before .before .before .before .before .before .before .before .before .before .before .before .before .before .before .before .before .before .before .before .before .args in
+there : (c : tie.In-loop2 Inv-loop μ-loop Inv-loop2 μ-loop2 Inv-picks μ-picks) → let a = c .before .before .before .before .before .before .before .before .before .before .before .before .before .before .before .before .before .before .before .before .before .before .before .before .before .before .before .before .args in let l = c .before .before .before .before .before .before .before .before .before .before .picks in let k = c .before .loop2 .earlier in withTaken (getD (l .taken) k 0) (getD (a .t7) k noRecord) ≡ getD (tableWith (l .taken) (a .t7)) k noRecord
+there c = let a = c .before .before .before .before .before .before .before .before .before .before .before .before .before .before .before .before .before .before .before .before .before .before .before .before .before .before .before .before .args in
     let l = c .before .before .before .before .before .before .before .before .before .before .picks in
     at-place (drivesOf (a .l)) (a .commands) (a .picks .now) (lent (a .memory .now) (images (a .image0 .now) (a .image1 .now) (a .image2 .now) (a .image3 .now))) (a .t7) (lent (l .memory) (images (l .image0) (l .image1) (l .image2) (l .image3))) (l .taken) (l .searched) (l .steps) (l .passed) (l .next) (l .inv) (c .before .loop2 .earlier) (let h = in-table (c .before .before .before .before .before .before .before) in let b = (c .loop2-test .taken) in omega arith)
 
-asked : (c : tie.In-loop2 Inv-loop μ-loop Inv-loop2 μ-loop2 Inv-picks μ-picks) (b : Bool) → let a = c .before .before .before .before .before .before .before .before .before .before .before .before .before .before .before .before .before .before .before .before .before .before .before .before .before .before .before .args in let l = c .before .before .before .before .before .before .before .before .before .before .picks in let k = c .before .loop2 .earlier in let p = getD (a .picks .now) (l .next) 0 in
+asked : (c : tie.In-loop2 Inv-loop μ-loop Inv-loop2 μ-loop2 Inv-picks μ-picks) (b : Bool) → let a = c .before .before .before .before .before .before .before .before .before .before .before .before .before .before .before .before .before .before .before .before .before .before .before .before .before .before .before .before .args in let l = c .before .before .before .before .before .before .before .before .before .before .picks in let k = c .before .loop2 .earlier in let p = getD (a .picks .now) (l .next) 0 in
     blocking (withTaken (getD (l .taken) p 0) (getD (a .t7) p noRecord)) (withTaken (getD (l .taken) k 0) (getD (a .t7) k noRecord)) ≡ b → blocking (c .before .before .before .before .before .with-taken .result) (getD (tableWith (l .taken) (a .t7)) k noRecord) ≡ b
 asked c b q = (λ j. blocking (c .before .before .before .before .before .with-taken .ensures j) (sym (there c) j)) ∙ q
 
 -- its footprint, and that of the place that is picked
-its-foot : (c : tie.In-loop2 Inv-loop μ-loop Inv-loop2 μ-loop2 Inv-picks μ-picks) → let k = c .before .loop2 .earlier in getD (c .before .before .before .before .before .before .before .before .before .before .before .before .before .before .before .before .before .before .before .loop .footprints) k noFootprint ≡ footprintOf (getD (c .before .before .before .before .before .before .before .before .before .before .before .before .before .before .before .before .before .before .before .before .before .before .before .before .before .before .before .args .t7) k noRecord)
+its-foot : (c : tie.In-loop2 Inv-loop μ-loop Inv-loop2 μ-loop2 Inv-picks μ-picks) → let k = c .before .loop2 .earlier in getD (c .before .before .before .before .before .before .before .before .before .before .before .before .before .before .before .before .before .before .before .loop .footprints) k noFootprint ≡ footprintOf (getD (c .before .before .before .before .before .before .before .before .before .before .before .before .before .before .before .before .before .before .before .before .before .before .before .before .before .before .before .before .args .t7) k noRecord)
 its-foot c = foot-at (c .before .before .before .before .before .before .before .before .before .before .before) (c .before .loop2 .earlier) (let h = in-table (c .before .before .before .before .before .before .before) in let b = (c .loop2-test .taken) in omega arith)
 
-wanted-foot : (c : tie.In-loop2 Inv-loop μ-loop Inv-loop2 μ-loop2 Inv-picks μ-picks) → let p = getD (c .before .before .before .before .before .before .before .before .before .before .before .before .before .before .before .before .before .before .before .before .before .before .before .before .before .before .before .args .picks .now) (c .before .before .before .before .before .before .before .before .before .before .picks .next) 0 in getD (c .before .before .before .before .before .before .before .before .before .before .before .before .before .before .before .before .before .before .before .loop .footprints) p noFootprint ≡ footprintOf (getD (c .before .before .before .before .before .before .before .before .before .before .before .before .before .before .before .before .before .before .before .before .before .before .before .before .before .before .before .args .t7) p noRecord)
-wanted-foot c = foot-at (c .before .before .before .before .before .before .before .before .before .before .before) (getD (c .before .before .before .before .before .before .before .before .before .before .before .before .before .before .before .before .before .before .before .before .before .before .before .before .before .before .before .args .picks .now) (c .before .before .before .before .before .before .before .before .before .before .picks .next) 0) (in-table (c .before .before .before .before .before .before .before))
+wanted-foot : (c : tie.In-loop2 Inv-loop μ-loop Inv-loop2 μ-loop2 Inv-picks μ-picks) → let p = getD (c .before .before .before .before .before .before .before .before .before .before .before .before .before .before .before .before .before .before .before .before .before .before .before .before .before .before .before .before .args .picks .now) (c .before .before .before .before .before .before .before .before .before .before .picks .next) 0 in getD (c .before .before .before .before .before .before .before .before .before .before .before .before .before .before .before .before .before .before .before .loop .footprints) p noFootprint ≡ footprintOf (getD (c .before .before .before .before .before .before .before .before .before .before .before .before .before .before .before .before .before .before .before .before .before .before .before .before .before .before .before .before .args .t7) p noRecord)
+wanted-foot c = foot-at (c .before .before .before .before .before .before .before .before .before .before .before) (getD (c .before .before .before .before .before .before .before .before .before .before .before .before .before .before .before .before .before .before .before .before .before .before .before .before .before .before .before .before .args .picks .now) (c .before .before .before .before .before .before .before .before .before .before .picks .next) 0) (in-table (c .before .before .before .before .before .before .before))
 
 -- what the search has passed does not block; past the search nothing does, and the number of the pick is 0
-clear : (c : tie.At-loop2 Inv-loop μ-loop Inv-loop2 μ-loop2 Inv-picks μ-picks) → let a = (c .before .before .before .before .before .before .before .before .before .before .before .before .before .before .before .before .before .before .before .before .before .before .before .before .before .before .args) in let l = (c .before .before .before .before .before .before .before .before .before .picks) in let p = getD (a .picks .now) (l .next) 0 in let t = tableWith (l .taken) (a .t7) in
+clear : (c : tie.At-loop2 Inv-loop μ-loop Inv-loop2 μ-loop2 Inv-picks μ-picks) → let a = (c .before .before .before .before .before .before .before .before .before .before .before .before .before .before .before .before .before .before .before .before .before .before .before .before .before .before .before .args) in let l = (c .before .before .before .before .before .before .before .before .before .picks) in let p = getD (a .picks .now) (l .next) 0 in let t = tableWith (l .taken) (a .t7) in
     someOf (blocking (getD t p noRecord)) (take (c .loop2 .earlier) t) ≡ false
-clear c = let a = c .before .before .before .before .before .before .before .before .before .before .before .before .before .before .before .before .before .before .before .before .before .before .before .before .before .before .args in
+clear c = let a = c .before .before .before .before .before .before .before .before .before .before .before .before .before .before .before .before .before .before .before .before .before .before .before .before .before .before .before .args in
     let l = c .before .before .before .before .before .before .before .before .before .picks in
     ap (λ (x : Record). someOf (blocking x) (take (c .loop2 .earlier) (tableWith (l .taken) (a .t7)))) (sym (here (c .before .before .before .before))) ∙ (c .loop2 .inv .3)
 
-free : (c : tie.After-loop2 Inv-loop μ-loop Inv-loop2 μ-loop2 Inv-picks μ-picks) → let a = (c .before .before .before .before .before .before .before .before .before .before .before .before .before .before .before .before .before .before .before .before .before .before .before .before .before .before .before .args) in let l = (c .before .before .before .before .before .before .before .before .before .before .picks) in placeNumber (tableWith (l .taken) (a .t7)) (a .commands) (getD (a .picks .now) (l .next) 0) ≡ 0
+free : (c : tie.After-loop2 Inv-loop μ-loop Inv-loop2 μ-loop2 Inv-picks μ-picks) → let a = (c .before .before .before .before .before .before .before .before .before .before .before .before .before .before .before .before .before .before .before .before .before .before .before .before .before .before .before .before .args) in let l = (c .before .before .before .before .before .before .before .before .before .before .picks) in placeNumber (tableWith (l .taken) (a .t7)) (a .commands) (getD (a .picks .now) (l .next) 0) ≡ 0
 unfolding waits
-free c = let a = c .before .before .before .before .before .before .before .before .before .before .before .before .before .before .before .before .before .before .before .before .before .before .before .before .before .before .before .args in
+free c = let a = c .before .before .before .before .before .before .before .before .before .before .before .before .before .before .before .before .before .before .before .before .before .before .before .before .before .before .before .before .args in
     let l = c .before .before .before .before .before .before .before .before .before .before .picks in
     let p = getD (a .picks .now) (l .next) 0 in
     let t = tableWith (l .taken) (a .t7) in
@@ -138,8 +139,11 @@ free c = let a = c .before .before .before .before .before .before .before .befo
 no-footprint-requires : tie.Need-no-footprint-requires Inv-loop μ-loop Inv-loop2 μ-loop2 Inv-picks μ-picks
 no-footprint-requires c κs = search needs
 
+rooms-of-requires : tie.Need-rooms-of-requires Inv-loop μ-loop Inv-loop2 μ-loop2 Inv-picks μ-picks
+rooms-of-requires c κs = search needs
+
 loop-holds : tie.Need-loop-holds Inv-loop μ-loop Inv-loop2 μ-loop2 Inv-picks μ-picks
-loop-holds c = let a = c .before .before .before .before .before .before .before .args in
+loop-holds c = let a = c .before .before .before .before .before .before .before .before .args in
     (opened-begin (drivesOf (a .l)) (a .commands) (stateIn (lent (a .memory .now) (images (a .image0 .now) (a .image1 .now) (a .image2 .now) (a .image3 .now))) (a .t7)) _ refl (search needs), footprinted-none (a .t7) _ refl)
 
 mul-r : tie.Need-mul-r Inv-loop μ-loop Inv-loop2 μ-loop2 Inv-picks μ-picks
@@ -176,10 +180,10 @@ loop-less : tie.Need-loop-less Inv-loop μ-loop Inv-loop2 μ-loop2 Inv-picks μ-
 loop-less c = omega arith
 
 loop-again : tie.Need-loop-again Inv-loop μ-loop Inv-loop2 μ-loop2 Inv-picks μ-picks
-loop-again c = let a = c .before .before .before .before .before .before .before .before .before .before .before .before .before .before .args in
+loop-again c = let a = c .before .before .before .before .before .before .before .before .before .before .before .before .before .before .before .args in
     let l = c .before .before .before .before .before .before .loop in
     let h = c .before .before .before .before .before .loop-test .taken in
-    let j = c .before .before .before .judge .ensures in (
+    let j = c .before .before .before .judge .ensures ∙ judged-by-rooms (length (a .memory .now)) (drivesOf (a .l)) (c .before .before .before .before .before .before .before .rooms-of .result) (c .before .before .before .before .before .before .before .rooms-of .ensures) (getD (a .t7) (l .k) noRecord) in (
       opened-more (drivesOf (a .l)) (a .commands) (lent (a .memory .now) (images (a .image0 .now) (a .image1 .now) (a .image2 .now) (a .image3 .now))) (a .t7) (l .taken) (l .seen) (l .k) (l .inv .0) (c .with-record .result) h
           (c .with-record .ensures .0 ∙ ap₂ (λ (x : Judged) (n : ℕ). seenWith (ltb (l .k) (a .commands)) (x .bad) n (l .seen)) j (c .before .remaining .ensures)) (c .with-record .ensures .1),
       footprinted-more (a .t7) (l .footprints) (l .k) _ (l .inv .1) h (ap (λ (x : Judged). x .footprint) j),
@@ -207,7 +211,7 @@ same-length-5 : tie.Need-same-length-5 Inv-loop μ-loop Inv-loop2 μ-loop2 Inv-p
 same-length-5 c = search needs
 
 returns : tie.Need-returns Inv-loop μ-loop Inv-loop2 μ-loop2 Inv-picks μ-picks
-returns c = let a = c .before .before .before .before .before .before .before .before .before .before .before .before .before .before .before .before .before .args in
+returns c = let a = c .before .before .before .before .before .before .before .before .before .before .before .before .before .before .before .before .before .before .args in
     let s = stateIn (lent (a .memory .now) (images (a .image0 .now) (a .image1 .now) (a .image2 .now) (a .image3 .now))) (a .t7) in
     let l = c .before .before .before .before .before .before .before .before .before .loop in
     let number = number-is (drivesOf (a .l)) (a .commands) (lent (a .memory .now) (images (a .image0 .now) (a .image1 .now) (a .image2 .now) (a .image3 .now))) (a .t7) (l .taken) (l .seen) (l .k) (l .inv .0) (c .before .before .before .before .before .before .before .before .loop-test .left) (a .length) (c .before .before .first-number .result) (c .before .before .first-number .ensures) in
@@ -216,7 +220,7 @@ returns c = let a = c .before .before .before .before .before .before .before .b
     (all-taken (drivesOf (a .l)) (a .commands) (lent (a .memory .now) (images (a .image0 .now) (a .image1 .now) (a .image2 .now) (a .image3 .now))) (a .t7) (l .taken) (l .seen) (l .k) (l .inv .0) (c .before .before .before .before .before .before .before .before .loop-test .left)))
 
 picks-holds : tie.Need-picks-holds Inv-loop μ-loop Inv-loop2 μ-loop2 Inv-picks μ-picks
-picks-holds c = let a = c .before .before .before .before .before .before .before .before .before .before .before .before .before .before .before .before .args in
+picks-holds c = let a = c .before .before .before .before .before .before .before .before .before .before .before .before .before .before .before .before .before .args in
     let l = c .before .before .before .before .before .before .before .before .loop in
     picks-begin (drivesOf (a .l)) (a .commands) (a .picks .now) (lent (a .memory .now) (images (a .image0 .now) (a .image1 .now) (a .image2 .now) (a .image3 .now))) (a .t7) (l .taken) (l .inv .0 .full) (l .inv .0 .long)
     (all-taken (drivesOf (a .l)) (a .commands) (lent (a .memory .now) (images (a .image0 .now) (a .image1 .now) (a .image2 .now) (a .image3 .now))) (a .t7) (l .taken) (l .seen) (l .k) (l .inv .0) (c .before .before .before .before .before .before .before .loop-test .left)) (goes c)
@@ -228,16 +232,16 @@ cast-place : tie.Need-cast-place Inv-loop μ-loop Inv-loop2 μ-loop2 Inv-picks �
 cast-place c = omega (arith, (c .shared-slice-known2 .given) (c .before .before .picks .next))
 
 add-next : tie.Need-add-next Inv-loop μ-loop Inv-loop2 μ-loop2 Inv-picks μ-picks
-add-next c = omega (arith, c .before .before .before .before .before .before .before .before .before .before .before .before .before .before .before .before .before .before .before .good .1 .1 .1 .1 .1 .1 .1 .1 .1 .0, c .before .picks-test .taken)
+add-next c = omega (arith, c .before .before .before .before .before .before .before .before .before .before .before .before .before .before .before .before .before .before .before .before .good .1 .1 .1 .1 .1 .1 .1 .1 .1 .0, c .before .picks-test .taken)
 
 add-passed : tie.Need-add-passed Inv-loop μ-loop Inv-loop2 μ-loop2 Inv-picks μ-picks
-add-passed c = omega (arith, c .before .before .before .before .before .before .before .before .before .before .before .before .before .before .before .before .before .before .before .before .good .1 .1 .1 .1 .1 .1 .1 .1 .1 .0, (c .before .before .before .picks .inv .counted), (c .before .before .before .picks .inv .most))
+add-passed c = omega (arith, c .before .before .before .before .before .before .before .before .before .before .before .before .before .before .before .before .before .before .before .before .before .good .1 .1 .1 .1 .1 .1 .1 .1 .1 .0, (c .before .before .before .picks .inv .counted), (c .before .before .before .picks .inv .most))
 
 picks-less : tie.Need-picks-less Inv-loop μ-loop Inv-loop2 μ-loop2 Inv-picks μ-picks
 picks-less c = omega arith
 
 picks-again : tie.Need-picks-again Inv-loop μ-loop Inv-loop2 μ-loop2 Inv-picks μ-picks
-picks-again c = let a = c .before .before .before .before .before .before .before .before .before .before .before .before .before .before .before .before .before .before .before .before .args in
+picks-again c = let a = c .before .before .before .before .before .before .before .before .before .before .before .before .before .before .before .before .before .before .before .before .before .args in
     let l = c .before .before .before .picks in
     let p = getD (a .picks .now) (l .next) 0 in
     pick-passed-over (drivesOf (a .l)) (a .commands) (a .picks .now) (lent (a .memory .now) (images (a .image0 .now) (a .image1 .now) (a .image2 .now) (a .image3 .now))) (a .t7) (lent (l .memory) (images (l .image0) (l .image1) (l .image2) (l .image3))) (l .taken) (l .searched) (l .steps) (l .passed) (l .next) (l .inv) (c .before .before .picks-test .taken) (λ q. omega (arith, no-place (tableWith (l .taken) (a .t7)) (a .commands) p (c .if2 .taken), q))
@@ -261,13 +265,13 @@ finished-requires : tie.Need-finished-requires Inv-loop μ-loop Inv-loop2 μ-loo
 finished-requires c κs = search needs
 
 add-passed-2 : tie.Need-add-passed-2 Inv-loop μ-loop Inv-loop2 μ-loop2 Inv-picks μ-picks
-add-passed-2 c = omega (arith, (c .before .before .before .before .before .before .before .picks .inv .counted), (c .before .before .before .before .before .before .before .picks .inv .most), (c .before .before .before .before .before .before .picks-test .taken), (c .before .before .before .before .before .before .before .before .before .before .before .before .before .before .before .before .before .before .before .before .before .before .before .before .good))
+add-passed-2 c = omega (arith, (c .before .before .before .before .before .before .before .picks .inv .counted), (c .before .before .before .before .before .before .before .picks .inv .most), (c .before .before .before .before .before .before .picks-test .taken), (c .before .before .before .before .before .before .before .before .before .before .before .before .before .before .before .before .before .before .before .before .before .before .before .before .before .good))
 
 picks-less-2 : tie.Need-picks-less-2 Inv-loop μ-loop Inv-loop2 μ-loop2 Inv-picks μ-picks
 picks-less-2 c = omega arith
 
 picks-again-2 : tie.Need-picks-again-2 Inv-loop μ-loop Inv-loop2 μ-loop2 Inv-picks μ-picks
-picks-again-2 c = let a = c .before .before .before .before .before .before .before .before .before .before .before .before .before .before .before .before .before .before .before .before .before .before .before .before .args in
+picks-again-2 c = let a = c .before .before .before .before .before .before .before .before .before .before .before .before .before .before .before .before .before .before .before .before .before .before .before .before .before .args in
     let l = c .before .before .before .before .before .before .before .picks in
     let p = getD (a .picks .now) (l .next) 0 in
     let t = tableWith (l .taken) (a .t7) in
@@ -287,7 +291,7 @@ array-read-earlier : tie.Need-array-read-earlier Inv-loop μ-loop Inv-loop2 μ-l
 array-read-earlier c = omega (arith, in-table (c .before .before .before .before .before), (c .before .before .before .before .before .before .before .before .picks .inv .search .long))
 
 loop2-holds : tie.Need-loop2-holds Inv-loop μ-loop Inv-loop2 μ-loop2 Inv-picks μ-picks
-loop2-holds c = let a = c .before .before .before .before .before .before .before .before .before .before .before .before .before .before .before .before .before .before .before .before .before .before .before .before .before .args in
+loop2-holds c = let a = c .before .before .before .before .before .before .before .before .before .before .before .before .before .before .before .before .before .before .before .before .before .before .before .before .before .before .args in
     let l = c .before .before .before .before .before .before .before .before .picks in
     let p = getD (a .picks .now) (l .next) 0 in
     let t = tableWith (l .taken) (a .t7) in
@@ -312,7 +316,7 @@ loop2-less : tie.Need-loop2-less Inv-loop μ-loop Inv-loop2 μ-loop2 Inv-picks �
 loop2-less c = omega arith
 
 loop2-again : tie.Need-loop2-again Inv-loop μ-loop Inv-loop2 μ-loop2 Inv-picks μ-picks
-loop2-again c = let a = c .before .before .before .before .before .before .before .before .before .before .before .before .before .before .before .before .before .before .before .before .before .before .before .before .before .before .before .before .before .before .args in
+loop2-again c = let a = c .before .before .before .before .before .before .before .before .before .before .before .before .before .before .before .before .before .before .before .before .before .before .before .before .before .before .before .before .before .before .before .args in
     let l = c .before .before .before .before .before .before .before .before .before .before .before .before .before .picks in
     let e = c .before .before .before .before .loop2 in
     let p = getD (a .picks .now) (l .next) 0 in
@@ -334,7 +338,7 @@ loop2-less-2 : tie.Need-loop2-less-2 Inv-loop μ-loop Inv-loop2 μ-loop2 Inv-pic
 loop2-less-2 c = omega arith
 
 loop2-again-2 : tie.Need-loop2-again-2 Inv-loop μ-loop Inv-loop2 μ-loop2 Inv-picks μ-picks
-loop2-again-2 c = let a = c .before .before .before .before .before .before .before .before .before .before .before .before .before .before .before .before .before .before .before .before .before .before .before .before .before .before .before .before .before .before .before .before .args in
+loop2-again-2 c = let a = c .before .before .before .before .before .before .before .before .before .before .before .before .before .before .before .before .before .before .before .before .before .before .before .before .before .before .before .before .before .before .before .before .before .args in
     let l = c .before .before .before .before .before .before .before .before .before .before .before .before .before .before .before .picks in
     let e = c .before .before .before .before .before .before .loop2 in
     let p = getD (a .picks .now) (l .next) 0 in
@@ -368,14 +372,14 @@ array-write-searched : tie.Need-array-write-searched Inv-loop μ-loop Inv-loop2 
 array-write-searched c = let e = ap length (c .before .before .before .before .before .before .before .before .before .before .loop2 .inv .1) in omega (arith, in-table (c .before .before .before .before .before .before .before .before .before .before .before .before .before .before .before .before), (c .before .before .before .before .before .before .before .before .before .before .before .before .before .before .before .before .before .before .before .picks .inv .search .long))
 
 add-passed-3 : tie.Need-add-passed-3 Inv-loop μ-loop Inv-loop2 μ-loop2 Inv-picks μ-picks
-add-passed-3 c = omega (arith, (c .before .before .before .before .before .before .before .before .before .before .loop2 .inv .2), (c .before .before .before .before .before .before .before .before .before .before .before .before .before .before .before .before .before .before .before .picks .inv .counted), (c .before .before .before .before .before .before .before .before .before .before .before .before .before .before .before .before .before .before .before .picks .inv .most), (c .before .before .before .before .before .before .before .before .before .before .before .before .before .before .before .before .before .before .before .before .before .before .before .before .before .before .before .before .before .before .before .before .before .before .before .before .good))
+add-passed-3 c = omega (arith, (c .before .before .before .before .before .before .before .before .before .before .loop2 .inv .2), (c .before .before .before .before .before .before .before .before .before .before .before .before .before .before .before .before .before .before .before .picks .inv .counted), (c .before .before .before .before .before .before .before .before .before .before .before .before .before .before .before .before .before .before .before .picks .inv .most), (c .before .before .before .before .before .before .before .before .before .before .before .before .before .before .before .before .before .before .before .before .before .before .before .before .before .before .before .before .before .before .before .before .before .before .before .before .before .good))
 
 picks-less-3 : tie.Need-picks-less-3 Inv-loop μ-loop Inv-loop2 μ-loop2 Inv-picks μ-picks
 picks-less-3 c = omega (arith, (c .before .before .before .before .before .before .before .before .before .before .before .before .before .before .before .before .before .before .picks-test .taken))
 
 picks-again-3 : tie.Need-picks-again-3 Inv-loop μ-loop Inv-loop2 μ-loop2 Inv-picks μ-picks
 unfolding waits
-picks-again-3 c = let a = c .before .before .before .before .before .before .before .before .before .before .before .before .before .before .before .before .before .before .before .before .before .before .before .before .before .before .before .before .before .before .before .before .before .before .before .before .args in
+picks-again-3 c = let a = c .before .before .before .before .before .before .before .before .before .before .before .before .before .before .before .before .before .before .before .before .before .before .before .before .before .before .before .before .before .before .before .before .before .before .before .before .before .args in
     let l = c .before .before .before .before .before .before .before .before .before .before .before .before .before .before .before .before .before .before .before .picks in
     let p = getD (a .picks .now) (l .next) 0 in
     let t = tableWith (l .taken) (a .t7) in
@@ -395,7 +399,7 @@ loop2-less-3 : tie.Need-loop2-less-3 Inv-loop μ-loop Inv-loop2 μ-loop2 Inv-pic
 loop2-less-3 c = omega arith
 
 loop2-again-3 : tie.Need-loop2-again-3 Inv-loop μ-loop Inv-loop2 μ-loop2 Inv-picks μ-picks
-loop2-again-3 c = let a = c .before .before .before .before .before .before .before .before .before .before .before .before .before .before .before .before .before .before .before .before .before .before .before .before .before .before .before .before .before .before .before .before .before .before .before .before .args in
+loop2-again-3 c = let a = c .before .before .before .before .before .before .before .before .before .before .before .before .before .before .before .before .before .before .before .before .before .before .before .before .before .before .before .before .before .before .before .before .before .before .before .before .before .args in
     let l = c .before .before .before .before .before .before .before .before .before .before .before .before .before .before .before .before .before .before .before .picks in
     let e = c .before .before .before .before .before .before .before .before .before .before .loop2 in
     let p = getD (a .picks .now) (l .next) 0 in
@@ -417,19 +421,19 @@ remaining-requires-2 : tie.Need-remaining-requires-2 Inv-loop μ-loop Inv-loop2 
 remaining-requires-2 c κs = search needs
 
 picks-alike-requires : tie.Need-picks-alike-requires Inv-loop μ-loop Inv-loop2 μ-loop2 Inv-picks μ-picks
-picks-alike-requires c κs = let a = c .before .before .before .before .before .before .before .before .before .before .before .before .before .before .before .before .before .before .before .before .before .before .before .before .before .before .before .before .args in
+picks-alike-requires c κs = let a = c .before .before .before .before .before .before .before .before .before .before .before .before .before .before .before .before .before .before .before .before .before .before .before .before .before .before .before .before .before .args in
     let l = c .before .before .before .before .before .before .before .before .before .before .before .picks in
     ((c .before .before .before .before .before .before .before .before .before .before .picks-test .taken), rw (c .remaining2 .ensures) (some-left (drivesOf (a .l)) (a .commands) (a .picks .now) (lent (a .memory .now) (images (a .image0 .now) (a .image1 .now) (a .image2 .now) (a .image3 .now))) (a .t7) (lent (l .memory) (images (l .image0) (l .image1) (l .image2) (l .image3))) (l .taken) (l .searched) (l .steps) (l .passed) (l .next) (l .inv) (c .before .before .before .before .before .before .with-taken .result) (here (c .before .before .before .before .before .before)) (in-table (c .before .before .before .before .before .before .before .before)) (free (c .before))))
 
 take-steps-requires : tie.Need-take-steps-requires Inv-loop μ-loop Inv-loop2 μ-loop2 Inv-picks μ-picks
-take-steps-requires c κs = let a = c .before .before .before .before .before .before .before .before .before .before .before .before .before .before .before .before .before .before .before .before .before .before .before .before .before .before .before .before .before .before .before .before .before .before .args in
+take-steps-requires c κs = let a = c .before .before .before .before .before .before .before .before .before .before .before .before .before .before .before .before .before .before .before .before .before .before .before .before .before .before .before .before .before .before .before .before .before .before .before .args in
     let l = c .before .before .before .before .before .before .before .before .before .before .before .before .before .before .before .before .before .picks in
     let few = rw (c .before .before .before .before .before .before .remaining2 .ensures) at (c .before .before .before .before .before .picks-alike .ensures .few) in
     (few, pick-ready (drivesOf (a .l)) (a .commands) (a .picks .now) (lent (a .memory .now) (images (a .image0 .now) (a .image1 .now) (a .image2 .now) (a .image3 .now))) (a .t7) (lent (l .memory) (images (l .image0) (l .image1) (l .image2) (l .image3))) (l .taken) (l .searched) (l .steps) (l .passed) (l .next) (l .inv) (c .before .before .before .before .before .before .before .before .before .before .before .before .with-taken .result) (here (c .before .before .before .before .before .before .before .before .before .before .before .before)) (in-table (c .before .before .before .before .before .before .before .before .before .before .before .before .before .before)) (free (c .before .before .before .before .before .before .before)) (c .before .before .before .before .before .picks-alike .result) few)
 
 add-taken : tie.Need-add-taken Inv-loop μ-loop Inv-loop2 μ-loop2 Inv-picks μ-picks
 unfolding remaining
-add-taken c = let a = c .before .before .before .before .before .before .before .before .before .before .before .before .before .before .before .before .before .before .before .before .before .before .before .before .before .before .before .before .before .before .before .before .before .before .before .before .before .before .before .before .before .before .before .before .before .before .args in
+add-taken c = let a = c .before .before .before .before .before .before .before .before .before .before .before .before .before .before .before .before .before .before .before .before .before .before .before .before .before .before .before .before .before .before .before .before .before .before .before .before .before .before .before .before .before .before .before .before .before .before .before .args in
     let l = c .before .before .before .before .before .before .before .before .before .before .before .before .before .before .before .before .before .before .before .before .before .before .before .before .before .before .before .before .before .picks in
     let few = rw (c .before .before .before .before .before .before .before .before .before .before .before .before .before .before .before .before .before .before .remaining2 .ensures) at (c .before .before .before .before .before .before .before .before .before .before .before .before .before .before .before .before .before .picks-alike .ensures .few) in
     omega (arith, few, steps-small (c .before .before .before .before .before .before .before .before .before .before .before .before .before .before .before .before .before .before .before .before .before .before .before .before .with-taken .result) (omega arith))
@@ -444,19 +448,19 @@ cast-steps : tie.Need-cast-steps Inv-loop μ-loop Inv-loop2 μ-loop2 Inv-picks �
 cast-steps c = search needs
 
 add-steps : tie.Need-add-steps Inv-loop μ-loop Inv-loop2 μ-loop2 Inv-picks μ-picks
-add-steps c = omega (arith, (c .before .before .before .before .before .before .before .before .before .before .before .before .before .before .before .before .before .picks-alike .ensures .there), (c .before .before .before .before .before .before .before .before .before .before .before .before .before .before .before .before .before .before .before .before .before .before .before .before .before .before .before .before .before .picks .inv .counted), (c .before .before .before .before .before .before .before .before .before .before .before .before .before .before .before .before .before .before .before .before .before .before .before .before .before .before .before .before .before .picks .inv .most), (c .before .before .before .before .before .before .before .before .before .before .before .before .before .before .before .before .before .before .before .before .before .before .before .before .before .before .before .before .before .before .before .before .before .before .before .before .before .before .before .before .before .before .before .before .before .before .good))
+add-steps c = omega (arith, (c .before .before .before .before .before .before .before .before .before .before .before .before .before .before .before .before .before .picks-alike .ensures .there), (c .before .before .before .before .before .before .before .before .before .before .before .before .before .before .before .before .before .before .before .before .before .before .before .before .before .before .before .before .before .picks .inv .counted), (c .before .before .before .before .before .before .before .before .before .before .before .before .before .before .before .before .before .before .before .before .before .before .before .before .before .before .before .before .before .picks .inv .most), (c .before .before .before .before .before .before .before .before .before .before .before .before .before .before .before .before .before .before .before .before .before .before .before .before .before .before .before .before .before .before .before .before .before .before .before .before .before .before .before .before .before .before .before .before .before .before .before .good))
 
 cast-next : tie.Need-cast-next Inv-loop μ-loop Inv-loop2 μ-loop2 Inv-picks μ-picks
 cast-next c = search needs
 
 add-next-2 : tie.Need-add-next-2 Inv-loop μ-loop Inv-loop2 μ-loop2 Inv-picks μ-picks
-add-next-2 c = omega (arith, (c .before .before .before .before .before .before .before .before .before .before .before .before .before .before .before .before .before .picks-alike .ensures .there), (c .before .before .before .before .before .before .before .before .before .before .before .before .before .before .before .before .before .before .before .before .before .before .before .before .before .before .before .before .before .before .before .before .before .before .before .before .before .before .before .before .before .before .before .before .before .before .good))
+add-next-2 c = omega (arith, (c .before .before .before .before .before .before .before .before .before .before .before .before .before .before .before .before .before .picks-alike .ensures .there), (c .before .before .before .before .before .before .before .before .before .before .before .before .before .before .before .before .before .before .before .before .before .before .before .before .before .before .before .before .before .before .before .before .before .before .before .before .before .before .before .before .before .before .before .before .before .before .before .good))
 
 picks-less-4 : tie.Need-picks-less-4 Inv-loop μ-loop Inv-loop2 μ-loop2 Inv-picks μ-picks
 picks-less-4 c = omega (arith, (c .before .before .before .before .before .before .before .before .before .before .before .before .before .before .before .before .before .before .before .before .before .before .before .before .before .before .before .before .picks-test .taken), (c .before .before .before .before .before .before .before .before .before .before .before .before .before .before .before .before .before .picks-alike .ensures .some), (c .before .before .before .before .before .before .before .before .before .before .before .before .before .before .before .before .before .picks-alike .ensures .there))
 
 picks-again-4 : tie.Need-picks-again-4 Inv-loop μ-loop Inv-loop2 μ-loop2 Inv-picks μ-picks
-picks-again-4 c = let a = c .before .before .before .before .before .before .before .before .before .before .before .before .before .before .before .before .before .before .before .before .before .before .before .before .before .before .before .before .before .before .before .before .before .before .before .before .before .before .before .before .before .before .before .before .before .before .args in
+picks-again-4 c = let a = c .before .before .before .before .before .before .before .before .before .before .before .before .before .before .before .before .before .before .before .before .before .before .before .before .before .before .before .before .before .before .before .before .before .before .before .before .before .before .before .before .before .before .before .before .before .before .before .args in
     let l = c .before .before .before .before .before .before .before .before .before .before .before .before .before .before .before .before .before .before .before .before .before .before .before .before .before .before .before .before .before .picks in
     let p = getD (a .picks .now) (l .next) 0 in
     let t = tableWith (l .taken) (a .t7) in
@@ -487,7 +491,7 @@ same-length-10 : tie.Need-same-length-10 Inv-loop μ-loop Inv-loop2 μ-loop2 Inv
 same-length-10 c = c .before .before .picks .inv .as-long (disk 3)
 
 returns-2 : tie.Need-returns-2 Inv-loop μ-loop Inv-loop2 μ-loop2 Inv-picks μ-picks
-returns-2 c = let a = c .before .before .before .before .before .before .before .before .before .before .before .before .before .before .before .before .before .before .before .args in
+returns-2 c = let a = c .before .before .before .before .before .before .before .before .before .before .before .before .before .before .before .before .before .before .before .before .args in
     let l = c .before .before .picks in
     let s = stateIn (lent (a .memory .now) (images (a .image0 .now) (a .image1 .now) (a .image2 .now) (a .image3 .now))) (a .t7) in
     let f = c .before .before .before .before .before .before .before .before .before .before .before .loop in
@@ -506,6 +510,7 @@ picks-taken-spec =
     Inv-picks
     μ-picks
     no-footprint-requires
+    rooms-of-requires
     loop-holds
     mul-r
     array-copy-out-r

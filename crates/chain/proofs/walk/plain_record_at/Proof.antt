@@ -14,24 +14,24 @@ copied-requires c κs = search needs
 drive-of-requires : tie.Need-drive-of-requires
 drive-of-requires c κs = search needs
 
+first-sector-requires : tie.Need-first-sector-requires
+first-sector-requires c κs = search needs
+
 early-verdict-requires : tie.Need-early-verdict-requires
 early-verdict-requires c κs = search needs
 
 final-verdict-requires : tie.Need-final-verdict-requires
 final-verdict-requires c κs = search needs
 
-first-sector-requires : tie.Need-first-sector-requires
-first-sector-requires c κs = search needs
-
 returns : tie.Need-returns
 returns c =
-    let v = c .before in
-    let e = v .before in
-    let o = e .before in
+    let e = c .before in
+    let f = e .before in
+    let o = f .before in
     let k = o .before in
     let a = k .before .before .before .args in
-    plain-made (a .memory .now) (a .at) (drivesOf (a .l)) (k .copied .result) (o .drive-of .result) (e .early-verdict .result) (c .first-sector .result) (k .before .no-links .result) (v .final-verdict .result)
-    (k .copied .ensures) (o .drive-of .ensures) (e .early-verdict .ensures) (k .before .no-links .ensures) (c .first-sector .ensures) (v .final-verdict .ensures)
+    plain-made (a .memory .now) (a .at) (drivesOf (a .l)) (k .copied .result) (o .drive-of .result) (e .early-verdict .result) (f .first-sector .result) (k .before .no-links .result) (c .final-verdict .result)
+    (k .copied .ensures) (o .drive-of .ensures) (e .early-verdict .ensures) (k .before .no-links .ensures) (f .first-sector .ensures) (c .final-verdict .ensures)
 
 pub plain-record-at-spec : {M : Type 1} → statement M
 plain-record-at-spec =
@@ -40,7 +40,7 @@ plain-record-at-spec =
     no-links-requires
     copied-requires
     drive-of-requires
+    first-sector-requires
     early-verdict-requires
     final-verdict-requires
-    first-sector-requires
     returns)

@@ -6,6 +6,9 @@ use borrow.Author.Needs.{needs}
 use Rattle.chain.proofs.walk.record_of.Statement.{statement}
 use Rattle.chain.proofs.walk.record_of.Tie as tie
 
+first-sector-requires : tie.Need-first-sector-requires
+first-sector-requires c κs = search needs
+
 early-verdict-requires : tie.Need-early-verdict-requires
 early-verdict-requires c κs = search needs
 
@@ -19,7 +22,7 @@ cast-links-at-2 : tie.Need-cast-links-at-2
 cast-links-at-2 c = search needs
 
 links-at-requires : tie.Need-links-at-requires
-links-at-requires c κs = let a = c .before .before .before .before .args in
+links-at-requires c κs = let a = c .before .before .before .before .before .args in
     let e = c .before .before .early-verdict .result .code in
     let n = c .before .links-to-read .ensures in
     (omega (arith, n, to-read-few (a .c) e (length (a .memory .now))), λ h. omega (arith, n, to-read-in (a .c) e (length (a .memory .now)) (omega arith)))
@@ -27,27 +30,24 @@ links-at-requires c κs = let a = c .before .before .before .before .args in
 final-verdict-requires : tie.Need-final-verdict-requires
 final-verdict-requires c κs = search needs
 
-first-sector-requires : tie.Need-first-sector-requires
-first-sector-requires c κs = search needs
-
 returns : tie.Need-returns
 returns c =
-    let v = c .before in
-    let l = v .before in
+    let l = c .before in
     let e = l .before .before .before in
-    let a = e .before .before .args in
-    record-made (a .memory .now) (a .c) (a .at) (a .d) (e .early-verdict .result) (l .before .before .links-to-read .result) (c .first-sector .result) (l .links-at .result) (v .final-verdict .result)
-    (e .early-verdict .ensures) (l .before .before .links-to-read .ensures) (l .links-at .ensures) (c .first-sector .ensures) (v .final-verdict .ensures)
+    let f = e .before in
+    let a = f .before .before .args in
+    record-made (a .memory .now) (a .c) (a .at) (a .d) (e .early-verdict .result) (l .before .before .links-to-read .result) (f .first-sector .result) (l .links-at .result) (c .final-verdict .result)
+    (e .early-verdict .ensures) (l .before .before .links-to-read .ensures) (l .links-at .ensures) (f .first-sector .ensures) (c .final-verdict .ensures)
 
 pub record-of-spec : {M : Type 1} → statement M
 record-of-spec =
     tie.close
     (tie.spec
+    first-sector-requires
     early-verdict-requires
     links-to-read-requires
     cast-links-at
     cast-links-at-2
     links-at-requires
     final-verdict-requires
-    first-sector-requires
     returns)

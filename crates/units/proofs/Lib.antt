@@ -1,0 +1,2 @@
+-- Laws beneath the crates above: what room a unit has.
+pub mod ByUnit
