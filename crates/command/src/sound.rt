@@ -11,6 +11,7 @@ use units::rooms::Rooms;
 ghost use mathlib.Core.Path.{_≡_};
 ghost use mathlib.Core.Bool.{true};
 ghost use Rattle.meaning.specs.Command.{transfers};
+ghost use Rattle.units.specs.Rooms.{roomOf};
 ghost use Rattle.command.specs.Data.{badData, badMove, badBy};
 ghost use Rattle.command.specs.Footprints.{dataHull};
 ghost use Rattle.command.specs.Look.{mayBlock, judgedAs, lookedAs};
@@ -71,6 +72,14 @@ fn bad_by(memory: u64, room: Room, r: Record, h: Hull) -> bool
     1 < r.taken
 }
 
+// The same by the rooms of all units.
+fn bad_among(memory: u64, rooms: Rooms, r: Record, h: Hull) -> bool
+    requires { ⌜ h ≡ dataHull r ⌝ }
+    ensures { λ b. ⌜ b ≡ badBy memory (roomOf rooms (r .unit)) r ⌝ }
+{
+    bad_by(memory, rooms::room_of(rooms, r.unit), r, h)
+}
+
 // A record that no table in use may hold, by the room of its own unit.
 pub fn bad_record(memory: u64, room: Room, r: Record) -> bool
     ensures { λ b. ⌜ b ≡ badBy memory room r ⌝ }
@@ -91,7 +100,7 @@ pub fn judge(memory: u64, rooms: Rooms, r: Record) -> Judged
     let h = touch::data_hull(r);
     Judged {
         footprint: touch::footprint_with(r, h),
-        bad: bad_by(memory, rooms::room_of(rooms, r.unit), r, h),
+        bad: bad_among(memory, rooms, r, h),
     }
 }
 
@@ -121,7 +130,7 @@ pub fn look(memory: u64, rooms: Rooms, r: Record, wanted: Footprint, earlier: bo
 {
     let h = touch::data_hull(r);
     Looked {
-        bad: bad_by(memory, rooms::room_of(rooms, r.unit), r, h),
+        bad: bad_among(memory, rooms, r, h),
         near: may_block(r, h, wanted, earlier),
     }
 }
