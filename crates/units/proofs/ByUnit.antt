@@ -8,7 +8,6 @@ use borrow.Author.Tests.{le-ltb}
 use Rattle.meaning.specs.declared.Drive.{Drive}
 use Rattle.meaning.specs.Drives.{Drives, mostUnits}
 use Rattle.meaning.specs.Sectors.{sectorCount}
-use Rattle.units.specs.declared.rooms.Room.{Room}
 use Rattle.units.specs.Rooms.{noRoom, roomIn, roomsOf, roomOf}
 
 pub room-there : (d : Drive) → d .present ≡ true → roomIn d ≡ record { sectors = record { 0 = sectorCount d }; protected = d .protected }

@@ -5,7 +5,6 @@ use mathlib.Core.List.{[], _∷_}
 use lib.ListN.{getD}
 use lib.Dec.{ltb}
 use Rattle.meaning.specs.declared.Drive.{Drive}
-use Rattle.meaning.specs.declared.Count.{Count}
 use Rattle.meaning.specs.Drives.{Drives, mostUnits}
 use Rattle.meaning.specs.Sectors.{sectorCount}
 use Rattle.units.specs.declared.rooms.Room.{Room}

@@ -1,7 +1,6 @@
 -- `rooms_of` meets its contract: unit by unit it is what the calls ensure.
-use mathlib.Core.Path.{_≡_, ap, _∙_}
+use mathlib.Core.Path.{ap, _∙_}
 use mathlib.Core.List.{[], _∷_}
-use Rattle.units.specs.declared.rooms.Room.{Room}
 use Rattle.units.specs.Rooms.{roomIn}
 use borrow.Author.Needs.{needs}
 use Rattle.units.proofs.rooms.rooms_of.Statement.{statement}
