@@ -1,10 +1,10 @@
--- What number 9 asks of a record: of its data the hull alone, and of memory its length alone.
+-- What number 9 asks of a record: of its data the hull alone, of its unit the room, and of memory its length alone.
 use mathlib.Core.Path.{_≡_, refl, sym, ap, ap₂, _∙_}
 use Prim.Native.Nat.{ℕ, _+_, _*_, _<_, max}
 use native.Mathlib.Decide.{decLt}
 use native.Mathlib.Nat.{zero-add}
 use native.Mathlib.Omega.{arith}
-use mathlib.Core.Bool.{Bool, true, false, not, _&&_, _||_, or-assoc}
+use mathlib.Core.Bool.{Bool, true, false, not, _&&_, _||_, or-assoc, or-true}
 use mathlib.Core.List.{List, [], _∷_}
 use lib.Dec.{ltb, leb, eqb}
 use borrow.Author.Tests.{lt-ltb, le-ltb, eq-eqb}
@@ -31,7 +31,7 @@ use Rattle.meaning.proofs.Tests.{or-no}
 use Rattle.units.specs.declared.rooms.Room.{Room}
 use Rattle.units.specs.declared.rooms.Rooms.{Rooms}
 use Rattle.units.specs.Rooms.{noRoom, roomIn, roomsOf, roomOf}
-use Rattle.units.proofs.ByUnit.{room-there, room-away, room-by-unit}
+use Rattle.units.proofs.ByUnit.{room-where, room-by-unit}
 use Rattle.command.specs.declared.touch.Hull.{Hull}
 use Rattle.command.specs.declared.touch.Footprint.{Footprint}
 use Rattle.command.specs.Footprints.{far, nearer, hullWith, hullFrom, hullOf, dataHull, footprintOf}
@@ -86,10 +86,6 @@ by-hull n f r moves =
 
 -- ---- the rules' number 9 is what the code tests
 
-pub or-yes : (a : Bool) → (a || true) ≡ true
-or-yes true = refl
-or-yes false = refl
-
 regroup : (x a b c d e f : Bool) → ((((((x || a) || b) || c) || d) || e) || f) ≡ (x || (a || ((b || (c || d)) || (e || f))))
 regroup true a b c d e f = refl
 regroup false true b c d e f = refl
@@ -107,7 +103,7 @@ no-room n r = go (means-lt 0 (r .count))
     past b = eqb (r .count) 0 || (badData n r || (b || writes r && false))
 
     go : {b : Bool} → Means (0 < r .count) b → badMove n noRoom r ≡ true
-    go (holds h) = ap past (lt-ltb 0 (r .sector + r .count) (omega (arith, h))) ∙ ap (λ (b : Bool). eqb (r .count) 0 || b) (or-yes (badData n r)) ∙ or-yes (eqb (r .count) 0)
+    go (holds h) = ap past (lt-ltb 0 (r .sector + r .count) (omega (arith, h))) ∙ ap (λ (b : Bool). eqb (r .count) 0 || b) (or-true (badData n r)) ∙ or-true (eqb (r .count) 0)
     go (fails h) = or-first _ _ (eq-eqb (r .count) 0 (omega (arith, h)))
 
 -- the room on a drive tells what the drive itself does
@@ -118,8 +114,8 @@ by-room n d r = go (d .present) refl
   where
     go : (b : Bool) → d .present ≡ b
         → (not (d .present) || (eqb (r .count) 0 || (badData n r || (driveEnd d (r .sector) (r .count) .past || writes r && d .protected)))) ≡ badMove n (roomIn d) r
-    go true e = or-second _ _ (ap not e) ∙ ap (λ (m : Room). badMove n m r) (sym (room-there d e))
-    go false e = or-first _ _ (ap not e) ∙ sym (ap (λ (m : Room). badMove n m r) (room-away d e) ∙ no-room n r)
+    go true e = or-second _ _ (ap not e) ∙ ap (λ (m : Room). badMove n m r) (sym (room-where d true e))
+    go false e = or-first _ _ (ap not e) ∙ sym (ap (λ (m : Room). badMove n m r) (room-where d false e) ∙ no-room n r)
 
 not-leb : (a n : ℕ) → not (leb a n) ≡ ltb n a
 not-leb a n = same-test (means-above a n) (means-lt n a)

@@ -1,5 +1,5 @@
--- What number 9 asks of a record, as the code tests it: of its data the hull alone, and of memory how many bytes it has, n. proofs/Data
--- proves that this is what the rules ask, where sizes are right; where they are not, number 1 comes first.
+-- What number 9 asks of a record, as the code tests it: of its data the hull alone, of its unit the room, and of memory how many bytes it
+-- has, n. proofs/Data proves that this is what the rules ask, where sizes are right; where they are not, number 1 comes first.
 use Prim.Native.Nat.{ℕ, _+_, _*_}
 use mathlib.Core.Bool.{Bool, not, _&&_, _||_}
 use lib.Dec.{ltb, eqb}

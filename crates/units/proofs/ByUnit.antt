@@ -2,7 +2,7 @@
 use mathlib.Core.Path.{_≡_, refl, sym, ap, _∙_}
 use Prim.Native.Nat.{ℕ, zero, suc}
 use native.Mathlib.Omega.{arith}
-use mathlib.Core.Bool.{Bool, true, false, cond}
+use mathlib.Core.Bool.{Bool, false, cond}
 use lib.ListN.{getD}
 use borrow.Author.Tests.{le-ltb}
 use Rattle.meaning.specs.declared.Drive.{Drive}
@@ -10,13 +10,10 @@ use Rattle.meaning.specs.Drives.{Drives, mostUnits}
 use Rattle.meaning.specs.Sectors.{sectorCount}
 use Rattle.units.specs.Rooms.{noRoom, roomIn, roomsOf, roomOf}
 
-pub room-there : (d : Drive) → d .present ≡ true → roomIn d ≡ record { sectors = record { 0 = sectorCount d }; protected = d .protected }
+-- the room on a drive that is there, or absent
+pub room-where : (d : Drive) (b : Bool) → d .present ≡ b → roomIn d ≡ cond b (record { sectors = record { 0 = sectorCount d }; protected = d .protected }) noRoom
 unfolding roomIn
-room-there d e = ap (λ (b : Bool). cond b (record { sectors = record { 0 = sectorCount d }; protected = d .protected }) noRoom) e
-
-pub room-away : (d : Drive) → d .present ≡ false → roomIn d ≡ noRoom
-unfolding roomIn
-room-away d e = ap (λ (b : Bool). cond b (record { sectors = record { 0 = sectorCount d }; protected = d .protected }) noRoom) e
+room-where d b e = ap (λ (c : Bool). cond c (record { sectors = record { 0 = sectorCount d }; protected = d .protected }) noRoom) e
 
 pub room-by-unit : (d : Drives) (u : ℕ) → roomOf (roomsOf d) u ≡ roomIn (d .on u)
 unfolding roomOf
@@ -27,4 +24,4 @@ room-by-unit d (suc (suc (suc zero))) = refl
 room-by-unit d (suc (suc (suc (suc u)))) =
     let v = suc (suc (suc (suc u))) in
     ap (λ (b : Bool). cond b (getD (roomsOf d .units) v noRoom) noRoom) (le-ltb v mostUnits (omega arith))
-    ∙ sym (room-away (d .on v) (d .absent-above v (omega arith)))
+    ∙ sym (room-where (d .on v) false (d .absent-above v (omega arith)))

@@ -2,7 +2,7 @@
 -- without a list has as many bytes as its sectors.
 use mathlib.Core.Path.{refl, sym, ap, _∙_}
 use Prim.Native.Nat.{ℕ, _*_}
-use mathlib.Core.Bool.{Bool, not, _||_}
+use mathlib.Core.Bool.{Bool, not, _||_, or-true}
 use lib.Dec.{ltb, eqb}
 use borrow.Author.Tests.{lt-ltb, le-ltb, eq-eqb}
 use Rattle.meaning.specs.Sectors.{sectorBytes}
@@ -11,7 +11,7 @@ use Rattle.meaning.proofs.Rows.{or-first, or-second}
 use Rattle.command.specs.declared.touch.Hull.{Hull}
 use Rattle.command.specs.Footprints.{dataHull}
 use Rattle.command.specs.Data.{badData}
-use Rattle.command.proofs.Data.{or-yes, plain-bytes}
+use Rattle.command.proofs.Data.{plain-bytes}
 use borrow.Author.Needs.{needs}
 use Rattle.command.proofs.sound.bad_data.Statement.{statement}
 use Rattle.command.proofs.sound.bad_data.Tie as tie
@@ -24,7 +24,7 @@ unfolding badData
 returns c = let k = c .before .before in
     let r = k .args .r in
     let past = ap (λ (h : Hull). ltb (k .args .memory) (h .high)) (sym (k .pre .1)) ∙ lt-ltb _ _ (c .if1 .taken) in
-    sym (ap (λ (b : Bool). ltb mostLinks (r .ranges) || (b || not (eqb (dataHull r .bytes) (sectorBytes * r .count)))) past ∙ or-yes (ltb mostLinks (r .ranges)))
+    sym (ap (λ (b : Bool). ltb mostLinks (r .ranges) || (b || not (eqb (dataHull r .bytes) (sectorBytes * r .count)))) past ∙ or-true (ltb mostLinks (r .ranges)))
 
 returns-2 : tie.Need-returns-2
 unfolding badData

@@ -1,6 +1,6 @@
 -- `command::sound::bad_transfer` meets its contract: each test decides one part of the "or".
-use mathlib.Core.Path.{_≡_, refl, sym, ap, _∙_}
-use mathlib.Core.Bool.{Bool, true, false, _&&_}
+use mathlib.Core.Path.{sym, ap, _∙_}
+use mathlib.Core.Bool.{Bool, _&&_, and-true}
 use borrow.Author.Tests.{eq-eqb, ne-eqb}
 use Rattle.meaning.specs.Command.{writes}
 use Rattle.meaning.proofs.Rows.{or-first, or-second}
@@ -10,10 +10,6 @@ use Rattle.command.proofs.OneNumber.{writes-by-command}
 use borrow.Author.Needs.{needs}
 use Rattle.command.proofs.sound.bad_transfer.Statement.{statement}
 use Rattle.command.proofs.sound.bad_transfer.Tie as tie
-
-and-yes : (a : Bool) → (a && true) ≡ a
-and-yes true = refl
-and-yes false = refl
 
 returns : tie.Need-returns
 unfolding badMove
@@ -45,7 +41,7 @@ returns-4 c = let q = c .before .before in
     let start = e .before .before .before .before in
     let r = start .args .r in
     let past = sym (q .before .goes-past .ensures) ∙ q .if3 .left in
-    writes-by-command r (start .pre .0) ∙ sym (and-yes (writes r)) ∙ ap (λ (b : Bool). writes r && b) (sym (c .before .if4 .taken))
+    writes-by-command r (start .pre .0) ∙ sym (and-true (writes r)) ∙ ap (λ (b : Bool). writes r && b) (sym (c .before .if4 .taken))
     ∙ sym (or-second _ _ (ne-eqb _ _ (e .before .before .if1 .left)) ∙ or-second _ _ (sym (e .before .bad-data .ensures) ∙ e .if2 .left) ∙ or-second _ _ past)
 
 returns-5 : tie.Need-returns-5
