@@ -2,12 +2,11 @@
  * A small host: maps an image file as the board's disk, asks the board where some sectors are, lays a chain of nine commands in its own
  * memory, some of them mistakes, has the board walk it, takes some steps in an order of its own, lets the board do the rest as written,
  * and says in words what happened, and how much would have fitted where it asked for too much. Then it moves a page that lies in three
- * pieces; then it has a second drive, and copies from one to the other; and at last it speaks to both as a 431.
+ * pieces, and at last it has a second drive, and copies from one to the other.
  * Usage: host IMAGE IMAGE_1, the images of units 0 and 1. tools/example builds it, makes images for it and runs it.
  */
 #include "disk.h"
 #include "pair.h"
-#include "sister.h"
 #include "split.h"
 #include "words.h"
 
@@ -97,13 +96,13 @@ static bool play_chain(lent *host)
     return true;
 }
 
-/* The four stories, on mapped images. Whether they came to their end. */
+/* The three stories, on mapped images. Whether they came to their end. */
 static bool play(uint8_t *image, uint8_t *image_1)
 {
     static lent host;
     /* a host with one drive needs no more than this line to lend it */
     host.disks = rosadenca_one_drive(host.memory, MEMORY_BYTES, image, disk_bytes(0), disk_drive(0));
-    return play_chain(&host) && play_split(&host) && play_pair(&host, image_1) && play_sister(&host);
+    return play_chain(&host) && play_split(&host) && play_pair(&host, image_1);
 }
 
 int main(int words, char **word)

@@ -6,9 +6,9 @@
 #include <inttypes.h>
 #include <stdio.h>
 
-/* Says what a walk left in the table. Whether it was accepted. */
-static bool tell_walked(lent *host, rosadenca_walked walked, const wish *wishes)
+bool tell_walk(lent *host, const wish *wishes)
 {
+    rosadenca_walked walked = rosadenca_walk_lent(&host->disks, 0, host->table, ROSADENCA_MOST_COMMANDS);
     host->commands = walked.commands;
     if (walked.number != ROSADENCA_ACCEPTED) {
         fprintf(stderr, "host: the walk was refused with number %d: %s\n", walked.number, number_in_words(walked.number));
@@ -21,25 +21,6 @@ static bool tell_walked(lent *host, rosadenca_walked walked, const wish *wishes)
     return true;
 }
 
-bool tell_walk(lent *host, const wish *wishes)
-{
-    return tell_walked(host, rosadenca_walk_lent(&host->disks, 0, host->table, ROSADENCA_MOST_COMMANDS), wishes);
-}
-
-bool tell_walk_431(lent *host, uint16_t relocation, uint16_t start, const wish *wishes)
-{
-    rosadenca_walked walked = rosadenca_walk_431_lent(&host->disks, relocation, start, host->table, ROSADENCA_MOST_COMMANDS);
-    return tell_walked(host, walked, wishes);
-}
-
-/* Whether a command is closed, by the status in its own IOPB: where that stands goes by whose IOPB it is. */
-static bool is_closed(const lent *host, const rosadenca_record *record)
-{
-    if (record->front == ROSADENCA_FRONT_431)
-        return rosadenca_view_431(host->memory, MEMORY_BYTES, record->iopb).done;
-    return rosadenca_view(host->memory, MEMORY_BYTES, record->iopb).done;
-}
-
 void tell_pick(lent *host, size_t place)
 {
     uint8_t number = rosadenca_pick_lent(&host->disks, host->table, ROSADENCA_MOST_COMMANDS, host->commands, place);
@@ -48,8 +29,9 @@ void tell_pick(lent *host, size_t place)
         return;
     }
     const rosadenca_record *record = &host->table[place];
+    rosadenca_iopb iopb = rosadenca_view(host->memory, MEMORY_BYTES, record->iopb);
     printf("  pick %zu: one step taken, the command's step %" PRIu32, place, record->taken);
-    puts(is_closed(host, record) ? ", and it is closed." : "; it is not closed yet.");
+    puts(iopb.done ? ", and it is closed." : "; it is not closed yet.");
 }
 
 bool tell_rest(lent *host)

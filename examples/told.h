@@ -17,16 +17,13 @@ typedef struct {
 /* Walks the chain of these wishes, and says what the table holds. Whether it was accepted. */
 bool tell_walk(lent *host, const wish *wishes);
 
-/* The same for a chain of a 431, from its relocation word and its first address word. */
-bool tell_walk_431(lent *host, uint16_t relocation, uint16_t start, const wish *wishes);
-
 /* Takes one step at a place, and says what came of it. */
 void tell_pick(lent *host, size_t place);
 
 /* Lets the board do as written what is left. Whether all is finished. */
 bool tell_rest(lent *host);
 
-/* Reads each command's status in its own IOPB of a 753, where the board has posted it. */
+/* Reads each command's status in its own IOPB, where the board has posted it. */
 void tell_statuses(const lent *host);
 
 /* Looks at a sector of a unit, and shows the text at its start. The unit is named where there are several. */

@@ -57,24 +57,6 @@ const char *code_in_words(const rosadenca_iopb *iopb)
     }
 }
 
-const char *code_431_in_words(uint8_t completion)
-{
-    switch (completion) {
-    case ROSADENCA_431_SUCCESS: return "it went well";
-    case ROSADENCA_431_UNIMPLEMENTED: return "the board has no such command";
-    case ROSADENCA_431_DEVICE_TYPE: return "the device type is not that of a Winchester drive";
-    case ROSADENCA_431_UNIT: return "a 431 has Winchester units 0 and 1 alone";
-    case ROSADENCA_431_NOT_READY: return "the unit is absent, so no drive is ready";
-    case ROSADENCA_431_COUNT_ZERO: return "the count of sectors is zero";
-    case ROSADENCA_431_CYLINDER: return "the cylinder is above its maximum, or the sectors go past the end of the drive";
-    case ROSADENCA_431_HEAD: return "the head is too high";
-    case ROSADENCA_431_SECTOR: return "the sector is too high for its head";
-    case ROSADENCA_431_WRITE_PROTECTED: return "the drive is protected";
-    case ROSADENCA_431_BUS_ERROR: return "past the end of memory";
-    default: return "a code that the rules do not have";
-    }
-}
-
 void print_fitted(const rosadenca_iopb *iopb)
 {
     if (!past_drive(iopb) && !past_memory(iopb))

@@ -10,9 +10,6 @@ const char *number_in_words(uint8_t number);
 /* What a command got, by its closed IOPB: where one code has two meanings, byte 3 or SGM tells them apart. */
 const char *code_in_words(const rosadenca_iopb *iopb);
 
-/* The same of a 431's command, by byte 5 of its closed IOPB, which tells no more. */
-const char *code_431_in_words(uint8_t completion);
-
 /* Prints how many sectors would have fitted, to stand behind the words of the code; nothing where the status does not tell it. */
 void print_fitted(const rosadenca_iopb *iopb);
 

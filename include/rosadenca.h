@@ -21,11 +21,6 @@
  *
  * These short forms stand at the end of this file. The functions themselves take every image and the four drives one by one.
  *
- * If your machine has a 431, the Multibus sister, one line is another, the walk: it takes the relocation word and the address word of the
- * chain. All other lines stay as they are.
- *
- *     rosadenca_walked walked = rosadenca_walk_431_lent(&lent, relocation, start, table, ROSADENCA_MOST_COMMANDS);
- *
  * What a caller owes, at every call:
  * - each pointer is to as many bytes (or records) as the length beside it says, all readable, and writable where there is no const;
  *   a length may be 0, and then the pointer must still not be NULL;
@@ -62,16 +57,6 @@
  *   set nothing is told;
  * - with every other code, 00 among them, it is 0, and tells nothing;
  * - nothing is moved for such a command. A host that wants what fits asks again, with a count that fits.
- *
- * Chains of a 431. rosadenca_walk_431 reads their IOPBs and fills the same table; picks, runs and looks are the same calls for both, and
- * records of both may stand in one table. What a caller has to know of it, beside docs/THE-431.md:
- * - an IOPB has 24 bytes, and a number of two bytes has its low byte first. An address is two words, a relocation and an address: the byte
- *   of memory is (16 x relocation + address) mod 1,048,576. The relocation that the walk takes holds for its start and for every next
- *   address; that of the data stands in each IOPB. An IOPB lies at an even address, data may lie at an odd one;
- * - the chain ends at the first command that will fail, whatever its CHEN: what it goes on to is not looked at;
- * - a close writes bytes 4 and 5 of the IOPB, and nothing else: 0BH and 00, or 8BH and a code of the 431's own. How much would have fitted
- *   is not told;
- * - there are Winchester units 0 and 1 alone, and no link lists.
  */
 #ifndef ROSADENCA_H
 #define ROSADENCA_H
@@ -92,7 +77,6 @@ enum {
     ROSADENCA_SECTOR_BYTES = 512,     /* the bytes of one sector: Board 2 */
     ROSADENCA_MOST_COMMANDS = 32,     /* the most commands of a chain, and the fewest records of a lent table: Walk 3, Size 4 */
     ROSADENCA_IOPB_BYTES = 30,        /* the bytes of one IOPB: IOPB 1 */
-    ROSADENCA_IOPB_431_BYTES = 24,    /* the bytes of one IOPB of a 431 */
     ROSADENCA_MOST_LINKS = 32,        /* the most elements of a link list, and the room of a record for their ranges: Link 1 and 7 */
     ROSADENCA_LINK_BYTES = 8          /* the bytes of one element in memory: Link 1 */
 };
@@ -102,7 +86,7 @@ enum {
     ROSADENCA_ACCEPTED = 0,          /* accepted: the table is filled, the step taken, the run done, the sector handed back or placed */
     ROSADENCA_SIZES_WRONG = 1,       /* memory, lent table or the image of a unit that is there have the wrong size, or the last head's
                                         maximum sector of such a unit's drive is above the other: Size 1 to 5, Place 5 */
-    ROSADENCA_ADDRESS_ODD = 2,       /* the address to start at is odd: Walk 6, View 3; of a 431's chain, that of any IOPB */
+    ROSADENCA_ADDRESS_ODD = 2,       /* the address to start at is odd: Walk 6, View 3 */
     ROSADENCA_IOPB_OUTSIDE = 3,      /* an IOPB is not all in memory: Walk 8, View 4 */
     ROSADENCA_IOPB_SHARED = 4,       /* an IOPB shares a byte with an earlier one, as in a loop: Walk 9 */
     ROSADENCA_CHAIN_TOO_LONG = 5,    /* there is a 33rd command: Walk 7 */
@@ -134,23 +118,7 @@ enum {
     ROSADENCA_CODE_SUCCESS = 0x00          /* none of these: Code 3 and 12 */
 };
 
-/* The completion codes of a 431, in byte 5 of a closed IOPB and in a record. The walk gives the first that applies, in this order; 10H
-   stands at two places of it. */
-enum {
-    ROSADENCA_431_UNIMPLEMENTED = 0x60,   /* a command above 2, or a subfunction that is not 0; of No Operation too */
-    ROSADENCA_431_DEVICE_TYPE = 0x80,     /* a transfer whose device type is not 1, a Winchester drive */
-    ROSADENCA_431_UNIT = 0x90,            /* unit 2 or 3, be it there or not */
-    ROSADENCA_431_NOT_READY = 0x34,       /* the unit is absent */
-    ROSADENCA_431_COUNT_ZERO = 0x50,      /* no sector to move */
-    ROSADENCA_431_CYLINDER = 0x10,        /* the cylinder is above its maximum; after 30H: the drive ends too early */
-    ROSADENCA_431_HEAD = 0x20,            /* the head is above its maximum */
-    ROSADENCA_431_SECTOR = 0x30,          /* the sector is above the maximum of its own head */
-    ROSADENCA_431_WRITE_PROTECTED = 0x94, /* a write to a unit whose drive is protected */
-    ROSADENCA_431_BUS_ERROR = 0x54,       /* the data goes past the end of memory */
-    ROSADENCA_431_SUCCESS = 0x00          /* none of these, or No Operation */
-};
-
-/* The commands that the board does, in bits 3-0 of byte 0, of a 431's IOPB in bits 3-0 of byte 1: Board 5. */
+/* The commands that the board does, in bits 3-0 of byte 0: Board 5. */
 enum {
     ROSADENCA_NO_OPERATION = 0,
     ROSADENCA_WRITE_DATA = 1,
@@ -198,12 +166,6 @@ typedef struct rosadenca_link {
     uint16_t unused;  /* 0 after the walk; nothing looks at it */
 } rosadenca_link;
 
-/* What the two walks write in a record's `front`. */
-enum {
-    ROSADENCA_FRONT_753 = 0,
-    ROSADENCA_FRONT_431 = 1
-};
-
 /* One accepted command, as the walk leaves it in the table: Record 3 and 4. A caller keeps records and hands them back; it has no need
    to write one. It has a link list exactly if `ranges` is not 0, whatever byte 0 says. */
 typedef struct rosadenca_record {
@@ -211,14 +173,13 @@ typedef struct rosadenca_record {
     uint32_t address; /* the data address: of its data, or of its link list, which is not looked at any more after the walk */
     uint32_t sector;  /* the number of its first sector, on its own unit's drive */
     uint32_t taken;   /* steps taken */
-    uint8_t ranges;   /* how many ranges its link list has; 0 where it has none, or where the walk did not read it */
-    uint8_t front;    /* whose IOPB it is: 1 for a 431's, every other number for a 753's. The walks write 1 and 0 */
+    uint16_t ranges;  /* how many ranges its link list has; 0 where it has none, or where the walk did not read it */
     uint16_t count;   /* how many sectors */
-    uint8_t unit;     /* its unit: 0 to 7 after the walk, of which those above 3 are absent; after the walk of a 431 0 to 3 */
-    uint8_t byte0;    /* the copied byte 0; of a 431 byte 1, which has the command in bits 3-0 too */
+    uint8_t unit;     /* its unit: 0 to 7 after the walk, of which those above 3 are absent */
+    uint8_t byte0;    /* the copied byte 0 */
     uint8_t code;     /* the code that its close will post */
     uint8_t fitted;   /* how many sectors would have fitted, 255 if more; 0 where nothing is told. Its close posts it in byte 3, as it
-                         stands here and whatever the code is: Code 18, Step 9. The close of a 431's does not post it */
+                         stands here and whatever the code is: Code 18, Step 9 */
     rosadenca_link list[ROSADENCA_MOST_LINKS]; /* the ranges, in list order; those past `ranges` are 0 and 0 after the walk */
 } rosadenca_record;
 
@@ -258,28 +219,6 @@ typedef struct rosadenca_iopb {
     uint8_t head;          /* byte C */
     uint8_t sector;        /* byte D */
 } rosadenca_iopb;
-
-/* The IOPB of a 431 at an address: the number of the view, and every field. A bit is 0 or 1. Addresses and relocation are the words as they
-   stand there. Where the number is not 0, every field is 0. */
-typedef struct rosadenca_iopb_431 {
-    uint16_t next_address;    /* bytes 2-3 */
-    uint16_t cylinder;        /* bytes 8-9 */
-    uint16_t count;           /* bytes A-B: count of sectors */
-    uint16_t data_address;    /* bytes C-D */
-    uint16_t data_relocation; /* bytes E-F */
-    uint8_t number;           /* of the view: 2 for an odd address, then 3 for 24 bytes not all in memory, else 0 */
-    uint8_t device;           /* byte 0, bits 6-5: the device type, 1 for a Winchester drive */
-    uint8_t unit;             /* byte 0, bits 1-0 */
-    uint8_t chen;             /* byte 1, bit 6: another IOPB follows */
-    uint8_t command;          /* byte 1, bits 3-0 */
-    uint8_t ersm;             /* byte 4, bit 7: it failed */
-    uint8_t controller;       /* byte 4, bits 4-1: the controller type; 5 where the board has closed it */
-    uint8_t done;             /* byte 4, bit 0: it is closed */
-    uint8_t completion;       /* byte 5: the completion code */
-    uint8_t head;             /* byte 6 */
-    uint8_t sector;           /* byte 7 */
-    uint8_t subfunction;      /* byte 12 */
-} rosadenca_iopb_431;
 
 /* A part of a unit's image: `length` bytes from its byte `at` on. */
 typedef struct rosadenca_part {
@@ -322,7 +261,6 @@ ROSADENCA_AT(rosadenca_record, address, 4);
 ROSADENCA_AT(rosadenca_record, sector, 8);
 ROSADENCA_AT(rosadenca_record, taken, 12);
 ROSADENCA_AT(rosadenca_record, ranges, 16);
-ROSADENCA_AT(rosadenca_record, front, 17);
 ROSADENCA_AT(rosadenca_record, count, 18);
 ROSADENCA_AT(rosadenca_record, unit, 20);
 ROSADENCA_AT(rosadenca_record, byte0, 21);
@@ -357,24 +295,6 @@ ROSADENCA_AT(rosadenca_iopb, subfunction, 23);
 ROSADENCA_AT(rosadenca_iopb, unit, 24);
 ROSADENCA_AT(rosadenca_iopb, head, 25);
 ROSADENCA_AT(rosadenca_iopb, sector, 26);
-ROSADENCA_HOLDS(sizeof(rosadenca_iopb_431) == 22);
-ROSADENCA_AT(rosadenca_iopb_431, next_address, 0);
-ROSADENCA_AT(rosadenca_iopb_431, cylinder, 2);
-ROSADENCA_AT(rosadenca_iopb_431, count, 4);
-ROSADENCA_AT(rosadenca_iopb_431, data_address, 6);
-ROSADENCA_AT(rosadenca_iopb_431, data_relocation, 8);
-ROSADENCA_AT(rosadenca_iopb_431, number, 10);
-ROSADENCA_AT(rosadenca_iopb_431, device, 11);
-ROSADENCA_AT(rosadenca_iopb_431, unit, 12);
-ROSADENCA_AT(rosadenca_iopb_431, chen, 13);
-ROSADENCA_AT(rosadenca_iopb_431, command, 14);
-ROSADENCA_AT(rosadenca_iopb_431, ersm, 15);
-ROSADENCA_AT(rosadenca_iopb_431, controller, 16);
-ROSADENCA_AT(rosadenca_iopb_431, done, 17);
-ROSADENCA_AT(rosadenca_iopb_431, completion, 18);
-ROSADENCA_AT(rosadenca_iopb_431, head, 19);
-ROSADENCA_AT(rosadenca_iopb_431, sector, 20);
-ROSADENCA_AT(rosadenca_iopb_431, subfunction, 21);
 ROSADENCA_HOLDS(sizeof(rosadenca_part) == 16);
 ROSADENCA_AT(rosadenca_part, at, 0);
 ROSADENCA_AT(rosadenca_part, length, 8);
@@ -401,29 +321,15 @@ rosadenca_walked rosadenca_walk(const uint8_t *memory, size_t memory_length, con
                                 rosadenca_record *table, size_t table_length);
 
 /*
- * Walks a chain of a 431 into the table. Its first IOPB is at (16 x relocation + start) mod 1,048,576, and the same relocation holds for
- * every next address.
- * Numbers, in this order: 1, then at each IOPB in turn, the first among them, 5, 2, 3, 4; else 0. The chain goes on after a command exactly
- * if its CHEN is set and its code is 00: the first that will fail is the last of the table, is accepted, and its record holds its code.
- * Of what comes after it nothing is looked at, and no number is given. What is written and what is left alone is as for rosadenca_walk.
- */
-rosadenca_walked rosadenca_walk_431(const uint8_t *memory, size_t memory_length, const uint8_t *image0, size_t image0_length,
-                                    const uint8_t *image1, size_t image1_length, const uint8_t *image2, size_t image2_length,
-                                    const uint8_t *image3, size_t image3_length, rosadenca_drives drives, uint16_t relocation,
-                                    uint16_t start, rosadenca_record *table, size_t table_length);
-
-/*
  * Takes one step of the command at a place of the table, the first being 0: Pick 1. A transfer with code 00 has as many steps as its
  * count, and each moves one sector between memory and the image of its own unit; every other command has one step (Step 1 to 3). The
  * last step also closes the command: after its sector has moved, it writes bytes 0 to 3 of its IOPB, all of them from its record and the
- * drive of its unit and none from what lies in memory by then (Step 4 to 9). Of a 431's command these are bytes 4 and 5, from its record
- * alone.
+ * drive of its unit and none from what lies in memory by then (Step 4 to 9).
  * Numbers, in this order: 1, 9, 8, 7, 6; else 0 (Pick 2 to 7). 9 is for over 32 commands, or for a record in use that has its IOPB
  * not all in memory or more steps taken than it has, or that is a transfer with no sector, with data or sectors outside memory or
  * its unit's drive, on an absent unit, or a write to a protected drive (Spoiled 1 to 7 and 11). Of a transfer with a link list the data
  * is every range: 9 is also for more than 32 of them (Spoiled 9), and for lengths that do not add up to the sectors (Spoiled 10). The
- * unit of a record that is no transfer gives no 9, nor does how many sectors would have fitted, whatever the record says (Spoiled 8). How
- * long its IOPB is, 30 bytes or 24, and which are its status bytes, goes by the record's own `front`.
+ * unit of a record that is no transfer gives no 9, nor does how many sectors would have fitted, whatever the record says (Spoiled 8).
  * 6 is for an earlier unfinished command that shares a byte of memory, or a sector of the same unit, with this one where one of them
  * writes it: sectors of two units are never the same (Touch 4).
  * On 0 one step is taken in memory, the image of the command's own unit and table. On any other number nothing is changed.
@@ -487,12 +393,6 @@ uint64_t rosadenca_chain_steps(const rosadenca_record *table, size_t table_lengt
 rosadenca_iopb rosadenca_view(const uint8_t *memory, size_t memory_length, uint32_t at);
 
 /*
- * The IOPB of a 431 at an address of memory, with the number of the view. The address is that of a byte, as a record's `iopb` has it, and
- * nothing is relocated. Changes nothing.
- */
-rosadenca_iopb_431 rosadenca_view_431(const uint8_t *memory, size_t memory_length, uint32_t at);
-
-/*
  * The short forms: all that a host lends but its table, in one struct, and each call above over it. They are compiled with the program
  * that uses them, and add nothing to what the calls do.
  */
@@ -544,12 +444,6 @@ static inline rosadenca_walked rosadenca_walk_lent(const rosadenca_lent *lent, u
                                                    size_t table_length)
 {
     return rosadenca_walk(lent->memory, lent->memory_length, ROSADENCA_DISKS(lent), start, table, table_length);
-}
-
-static inline rosadenca_walked rosadenca_walk_431_lent(const rosadenca_lent *lent, uint16_t relocation, uint16_t start,
-                                                       rosadenca_record *table, size_t table_length)
-{
-    return rosadenca_walk_431(lent->memory, lent->memory_length, ROSADENCA_DISKS(lent), relocation, start, table, table_length);
 }
 
 static inline uint8_t rosadenca_pick_lent(const rosadenca_lent *lent, rosadenca_record *table, size_t table_length, size_t commands,

@@ -10,7 +10,7 @@
 #include <string.h>
 
 /* The limits of the format. A list of picks has the most numbers, and is the longest line. */
-enum { MOST_MEMORY = 66560, MOST_IMAGE = 16778240, RECORDS = 40, FIELDS = 11, MOST_NUMBERS = 256, LINE_BYTES = 2048 };
+enum { MOST_MEMORY = 66560, MOST_IMAGE = 16778240, RECORDS = 40, FIELDS = 10, MOST_NUMBERS = 256, LINE_BYTES = 2048 };
 
 /* The calls that are not lent use the first 32 records. */
 enum { BY_VALUE = ROSADENCA_MOST_COMMANDS };
@@ -67,8 +67,7 @@ static uint32_t digest_table(void)
         so_far = digest_number(so_far, table[k].count, 2);
         so_far = digest_number(so_far, table[k].byte0, 1);
         so_far = digest_number(so_far, table[k].code, 1);
-        so_far = digest_number(so_far, table[k].ranges, 1);
-        so_far = digest_number(so_far, table[k].front, 1);
+        so_far = digest_number(so_far, table[k].ranges, 2);
         so_far = digest_number(so_far, table[k].fitted, 1);
         so_far = digest_number(so_far, table[k].unit, 1);
         so_far = digest_ranges(so_far, &table[k]);
@@ -180,10 +179,9 @@ static bool set_field(uint64_t place, uint64_t field, uint64_t value)
     case 4: record->count = (uint16_t)value; return true;
     case 5: record->byte0 = (uint8_t)value; return true;
     case 6: record->code = (uint8_t)value; return true;
-    case 7: record->ranges = (uint8_t)value; return true;
+    case 7: record->ranges = (uint16_t)value; return true;
     case 8: record->fitted = (uint8_t)value; return true;
     case 9: record->unit = (uint8_t)value; return true;
-    case 10: record->front = (uint8_t)value; return true;
     default: return false;
     }
 }
@@ -224,35 +222,18 @@ static bool play_lent(void)
 
 /* The lines that call. */
 
-/* Prints what a walk gave, and takes over its commands. */
-static bool tell_walk(const char *word, rosadenca_walked walked)
+static bool walk(const char *word, size_t records)
 {
+    rosadenca_walked walked = rosadenca_walk_lent(&board, (uint32_t)number[0], table, records);
     commands = walked.commands;
     printf("%s %d %zu", word, walked.number, walked.commands);
     print_digests();
     return true;
 }
 
-static bool walk(const char *word, size_t records)
-{
-    return tell_walk(word, rosadenca_walk_lent(&board, (uint32_t)number[0], table, records));
-}
-
 static bool play_walk(void) { return walk("walk", BY_VALUE); }
 
 static bool play_lent_walk(void) { return walk("lentwalk", lent); }
-
-/* Both words have 16 bits. */
-static bool walk_431(const char *word, size_t records)
-{
-    if (number[0] > UINT16_MAX || number[1] > UINT16_MAX)
-        return false;
-    return tell_walk(word, rosadenca_walk_431_lent(&board, (uint16_t)number[0], (uint16_t)number[1], table, records));
-}
-
-static bool play_walk_431(void) { return walk_431("walk431", BY_VALUE); }
-
-static bool play_lent_walk_431(void) { return walk_431("lentwalk431", lent); }
 
 static bool pick(const char *word, size_t records)
 {
@@ -318,31 +299,13 @@ static void print_fields(rosadenca_iopb v)
     printf(" %d %d %d %d %" PRIu32 " %" PRIu32 "\n", v.count, v.cylinder, v.head, v.sector, v.data_address, v.next_address);
 }
 
-static void print_fields_431(rosadenca_iopb_431 v)
-{
-    printf(" %d %d %d %d %d", v.device, v.unit, v.chen, v.command, v.next_address);
-    printf(" %d %d %d %d %d %d", v.ersm, v.controller, v.done, v.completion, v.head, v.sector);
-    printf(" %d %d %d %d %d\n", v.cylinder, v.count, v.data_address, v.data_relocation, v.subfunction);
-}
-
-/* The archive views even addresses alone, so an odd one is viewed one byte earlier in the memory that begins one byte later: by so many. */
-static size_t later_for(uint32_t at) { return at % 2 != 0 && board.memory_length > 0 ? 1 : 0; }
-
+/* The archive views even addresses alone, so an odd one is viewed one byte earlier in the memory that begins one byte later. */
 static bool play_fields(void)
 {
     uint32_t at = (uint32_t)number[0];
-    size_t later = later_for(at);
+    size_t later = at % 2 != 0 && board.memory_length > 0 ? 1 : 0;
     fputs("fields", stdout);
     print_fields(rosadenca_view(memory + later, board.memory_length - later, at - at % 2));
-    return true;
-}
-
-static bool play_fields_431(void)
-{
-    uint32_t at = (uint32_t)number[0];
-    size_t later = later_for(at);
-    fputs("fields431", stdout);
-    print_fields_431(rosadenca_view_431(memory + later, board.memory_length - later, at - at % 2));
     return true;
 }
 
@@ -355,14 +318,6 @@ static bool play_view(void)
     return true;
 }
 
-static bool play_view_431(void)
-{
-    rosadenca_iopb_431 v = rosadenca_view_431(memory, board.memory_length, (uint32_t)number[0]);
-    printf("view431 %d", v.number);
-    print_fields_431(v);
-    return true;
-}
-
 /* Each word, the fewest and the most numbers that follow it, and what is done. */
 static const struct {
     const char *word;
@@ -371,14 +326,12 @@ static const struct {
 } words[] = {
     {"case", 1, 1, play_case},         {"memory", 3, 3, play_memory},       {"put", 2, 65, play_put},
     {"image", 4, 4, play_image},       {"disk", 2, 65, play_disk},          {"drive", 5, 5, play_drive},
-    {"record", 12, 12, play_record},   {"range", 4, 4, play_range},         {"spoil", 3, 3, play_spoil},
+    {"record", 11, 11, play_record},   {"range", 4, 4, play_range},         {"spoil", 3, 3, play_spoil},
     {"commands", 1, 1, play_commands}, {"lent", 1, 1, play_lent},           {"walk", 1, 1, play_walk},
     {"pick", 1, 1, play_pick},         {"picks", 0, 256, play_picks},       {"written", 1, 1, play_written},
     {"look", 2, 2, play_look},         {"fields", 1, 1, play_fields},       {"view", 1, 1, play_view},
     {"lentwalk", 1, 1, play_lent_walk}, {"lentpick", 1, 1, play_lent_pick}, {"steps", 0, 0, play_steps},
     {"place", 1, 1, play_place},       {"unit", 1, 1, play_unit},           {"there", 1, 1, play_there},
-    {"walk431", 2, 2, play_walk_431},  {"fields431", 1, 1, play_fields_431}, {"view431", 1, 1, play_view_431},
-    {"lentwalk431", 2, 2, play_lent_walk_431},
 };
 
 /* Plays one line, which is taken apart. Whether it is in the format. */

@@ -19,7 +19,6 @@ typedef __UINT32_TYPE__ uint32_t;
 typedef __UINT64_TYPE__ uint64_t;
 #define UINT32_C(number) number##U
 #define UINT8_MAX 255
-#define UINT16_MAX 65535
 #define UINT64_MAX 18446744073709551615UL
 #define PRIu32 "u"
 #define PRIx32 "x"

@@ -63,39 +63,6 @@ pub fn walk(
     }
 }
 
-/// Walks a chain of a 431 into the lent table: from a start, by a relocation that holds for every next
-/// address too.
-pub fn walk_431(
-    memory: &[u8],
-    images: &Images,
-    drives: &LentDrives,
-    relocation: u16,
-    start: u16,
-    table: &mut [Record],
-) -> Walked {
-    let [image0, image1, image2, image3] = images;
-    // SAFETY: as for the walk.
-    unsafe {
-        c::rosadenca_walk_431(
-            memory.as_ptr(),
-            memory.len(),
-            image0.as_ptr(),
-            image0.len(),
-            image1.as_ptr(),
-            image1.len(),
-            image2.as_ptr(),
-            image2.len(),
-            image3.as_ptr(),
-            image3.len(),
-            *drives,
-            relocation,
-            start,
-            table.as_mut_ptr(),
-            table.len(),
-        )
-    }
-}
-
 /// Takes one step of the command at a place.
 pub fn pick(
     memory: &mut [u8],

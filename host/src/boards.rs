@@ -4,12 +4,9 @@
 use crate::archive::{Images, ImagesMut};
 use crate::declared::{Drive, LentDrives, Part, Placed, Ran, Record, Walked};
 use crate::field::Fields;
-use crate::field_431::Fields431;
-use crate::{archive, field, field_431, ordinary};
+use crate::{archive, field, ordinary};
 
 type Walk = fn(&[u8], &Images, &LentDrives, u32, &mut [Record]) -> Walked;
-/// A walk by a relocation and a start.
-type Walk431 = fn(&[u8], &Images, &LentDrives, u16, u16, &mut [Record]) -> Walked;
 /// A call that steps: `W` says where to step or how far, `R` is what it gives.
 type Step<W, R> = fn(&mut [u8], &mut ImagesMut, &LentDrives, &mut [Record], usize, W) -> R;
 
@@ -19,7 +16,6 @@ type RunPicks = fn(&mut [u8], &mut ImagesMut, &LentDrives, &mut [Record], usize,
 pub struct Board {
     pub name: &'static str,
     pub walk: Walk,
-    pub walk_431: Walk431,
     pub pick: Step<usize, u8>,
     pub run_picks: RunPicks,
     pub run_written: Step<u64, Ran>,
@@ -29,14 +25,11 @@ pub struct Board {
     pub chain_steps: fn(&[Record], usize) -> u64,
     pub view_number: fn(&[u8], u32) -> u8,
     pub view: fn(&[u8], u32) -> Fields,
-    pub view_431_number: fn(&[u8], u32) -> u8,
-    pub view_431: fn(&[u8], u32) -> Fields431,
 }
 
 pub const ARCHIVE: Board = Board {
     name: "the archive",
     walk: archive::walk,
-    walk_431: archive::walk_431,
     pick: archive::pick,
     run_picks: archive::run_picks,
     run_written: archive::run_written,
@@ -46,14 +39,11 @@ pub const ARCHIVE: Board = Board {
     chain_steps: archive::chain_steps,
     view_number: field::view_number,
     view: field::view,
-    view_431_number: field_431::view_number,
-    view_431: field_431::view,
 };
 
 pub const ORDINARY: Board = Board {
     name: "the ordinary board",
     walk: ordinary::walk,
-    walk_431: ordinary::sister::walk,
     pick: ordinary::pick,
     run_picks: ordinary::run_picks,
     run_written: ordinary::run_written,
@@ -63,6 +53,4 @@ pub const ORDINARY: Board = Board {
     chain_steps: ordinary::chain_steps,
     view_number: ordinary::view_number,
     view: ordinary::view,
-    view_431_number: ordinary::sister::view_number,
-    view_431: ordinary::sister::view,
 };

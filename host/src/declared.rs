@@ -57,7 +57,7 @@ pub struct Link {
 /// One accepted command, as the walk leaves it in the table. Its sectors are those of its unit. It has a
 /// link list exactly if `ranges` is not 0; `list` then holds its ranges, as the walk copied them. Its
 /// close posts `code`, and beside it `fitted`: how many sectors would have fitted, 255 if more, and 0
-/// where the walk tells none. That of a 431's command posts `code` alone.
+/// where the walk tells none.
 #[repr(C)]
 #[derive(Clone, Copy, Debug, Default, PartialEq, Eq)]
 pub struct Record {
@@ -65,13 +65,10 @@ pub struct Record {
     pub address: u32,
     pub sector: u32,
     pub taken: u32,
-    pub ranges: u8,
-    /// Whose IOPB it is: 1 for a 431's, every other number for a 753's. The walks write 1 and 0.
-    pub front: u8,
+    pub ranges: u16,
     pub count: u16,
     /// 0 to 7 after the walk; a transfer on one that is absent gives 9.
     pub unit: u8,
-    /// The copied byte that has the command: byte 0 of a 753's IOPB, byte 1 of a 431's.
     pub byte0: u8,
     pub code: u8,
     pub fitted: u8,
@@ -121,30 +118,6 @@ pub struct Iopb {
     pub sector: u8,
 }
 
-/// The IOPB of a 431 at an address: the number of the view, and every field; all are 0 where that is not
-/// 0. Addresses and relocation are the words as they stand there.
-#[repr(C)]
-#[derive(Clone, Copy, Debug, Default, PartialEq, Eq)]
-pub struct Iopb431 {
-    pub next_address: u16,
-    pub cylinder: u16,
-    pub count: u16,
-    pub data_address: u16,
-    pub data_relocation: u16,
-    pub number: u8,
-    pub device: u8,
-    pub unit: u8,
-    pub chen: u8,
-    pub command: u8,
-    pub ersm: u8,
-    pub controller: u8,
-    pub done: u8,
-    pub completion: u8,
-    pub head: u8,
-    pub sector: u8,
-    pub subfunction: u8,
-}
-
 /// A part of a unit's image: so many bytes from a byte on.
 #[repr(C)]
 #[derive(Clone, Copy, Debug, Default, PartialEq, Eq)]
@@ -168,23 +141,6 @@ extern "C" {
         image3_length: usize,
         drives: LentDrives,
         start: u32,
-        table: *mut Record,
-        table_length: usize,
-    ) -> Walked;
-    pub(crate) fn rosadenca_walk_431(
-        memory: *const u8,
-        memory_length: usize,
-        image0: *const u8,
-        image0_length: usize,
-        image1: *const u8,
-        image1_length: usize,
-        image2: *const u8,
-        image2_length: usize,
-        image3: *const u8,
-        image3_length: usize,
-        drives: LentDrives,
-        relocation: u16,
-        start: u16,
         table: *mut Record,
         table_length: usize,
     ) -> Walked;
@@ -273,5 +229,4 @@ extern "C" {
         commands: usize,
     ) -> u64;
     pub(crate) fn rosadenca_view(memory: *const u8, memory_length: usize, at: u32) -> Iopb;
-    pub(crate) fn rosadenca_view_431(memory: *const u8, memory_length: usize, at: u32) -> Iopb431;
 }

@@ -5,7 +5,6 @@
 pub mod archive;
 pub mod declared;
 pub mod field;
-pub mod field_431;
 
 // The board written in the ordinary way, and what both boards have in common.
 pub mod boards;

@@ -4,8 +4,7 @@
 //! many sectors each unit has to read and to write, moves sectors that follow each other by one copy,
 //! works out once in a run what each command touches, and never asks twice there whether one command
 //! waits for another. A link list is weighed once a call, for number 9 and for where its data lies; only
-//! where two commands lie over each other by that are their ranges tested, pair by pair. What is a
-//! 431's own stands apart, in `sister`; the calls after a walk ask each record whose it is. Its calls are
+//! where two commands lie over each other by that are their ranges tested, pair by pair. Its calls are
 //! not inlined, as the archive's cannot be, so that no caller's own numbers are worked into them. The
 //! tests hold it to the second program.
 //!
@@ -15,7 +14,6 @@
 //! it was hard to read. Masks without such arrays were slower than none.
 
 mod lists;
-pub mod sister;
 
 use crate::archive::{Images, ImagesMut};
 use crate::declared::{Drive, LentDrives, Link, Part, Place, Placed, Ran, Record, Walked, UNITS};
@@ -156,14 +154,6 @@ fn fields(b: &[u8; IOPB]) -> Fields {
     }
 }
 
-/// The number of the sector at a place, worked out the same way where one of the three is above its
-/// maximum.
-fn number_at(drive: &Drive, cylinder: u16, head: u8, sector: u8) -> u64 {
-    u64::from(cylinder) * per_cylinder(*drive)
-        + u64::from(head) * per_track(*drive)
-        + u64::from(sector)
-}
-
 /// The maximum sector of a head.
 fn maximum_on(drive: &Drive, head: u8) -> u8 {
     if head == drive.head {
@@ -262,7 +252,6 @@ const BLANK: Record = Record {
     sector: 0,
     taken: 0,
     ranges: 0,
-    front: 0,
     count: 0,
     byte0: 0,
     code: 0,
@@ -276,7 +265,9 @@ fn fill(memory: &[u8], bounds: &Bounds, drives: &LentDrives, at: u32, r: &mut Re
     let bytes = iopb(memory, at).expect("the chain was followed through it");
     let f = fields(bytes);
     let drive = drive_of(drives, f.unit);
-    let first = number_at(drive, f.cylinder, f.head, f.sector);
+    let first = u64::from(f.cylinder) * per_cylinder(*drive)
+        + u64::from(f.head) * per_track(*drive)
+        + u64::from(f.sector);
     *r = BLANK;
     r.iopb = at;
     r.address = f.data_address;
@@ -297,7 +288,7 @@ fn fill(memory: &[u8], bounds: &Bounds, drives: &LentDrives, at: u32, r: &mut Re
         r.code = 0x4B;
         return;
     }
-    r.ranges = elements as u8;
+    r.ranges = elements as u16;
     r.code = list_code(bounds, &r.list[..elements], f.count);
 }
 
@@ -380,17 +371,8 @@ fn data_sound(bounds: &Bounds, r: &Record, hull: &mut Range<u32>) -> bool {
     list_sound(bounds, r, hull)
 }
 
-/// How many bytes the IOPB of a command has.
-fn iopb_bytes(r: &Record) -> usize {
-    if sister::is_its(r) {
-        sister::IOPB
-    } else {
-        IOPB
-    }
-}
-
 fn sound(bounds: &Bounds, r: &Record, hull: &mut Range<u32>) -> bool {
-    if u64::from(r.iopb) + iopb_bytes(r) as u64 > bounds.memory {
+    if u64::from(r.iopb) + IOPB as u64 > bounds.memory {
         return false;
     }
     let mut moves = |writes| {
@@ -434,24 +416,16 @@ fn refused(
     }
 }
 
-/// What a sound command touches: its status bytes, its data, its sectors. Where nothing moves, the last
-/// two are empty ranges, which meet no other. Of a command with a link list
+/// What a sound command touches: its status bytes from `status` on, its data, its sectors. Where
+/// nothing moves, the last two are empty ranges, which meet no other. Of a command with a link list
 /// the data here is only where its ranges lie at most. Sectors are numbered through all units, each having
 /// room for as many as an image can have, so that those of two units never meet.
 struct Touched {
     kind: Kind,
     listed: bool,
-    status: Range<u32>,
+    status: u32,
     data: Range<u32>,
     sectors: Range<u32>,
-}
-
-/// The bytes that the close of a command writes.
-fn status_bytes(r: &Record) -> Range<u32> {
-    let (from, bytes) = if sister::is_its(r) { sister::STATUS } else { (0, 4) };
-    // this wraps only where the record is not in use
-    let start = r.iopb.wrapping_add(from);
-    start..start.wrapping_add(bytes)
 }
 
 fn touched(r: &Record, hull: &Range<u32>) -> Touched {
@@ -464,13 +438,17 @@ fn touched(r: &Record, hull: &Range<u32>) -> Touched {
     Touched {
         kind,
         listed,
-        status: status_bytes(r),
+        status: r.iopb,
         data: if listed { hull.clone() } else { r.address..data_end },
         sectors: first..first.wrapping_add(u32::from(count)),
     }
 }
 
 impl Touched {
+    fn posted(&self) -> Range<u32> {
+        self.status..self.status + 4
+    }
+
     /// Whether bytes of memory have one in common with its data, by its ranges where it has a list.
     fn data_meets(&self, own: &Record, bytes: &Range<u32>) -> bool {
         meet(&self.data, bytes) && (!self.listed || lists::meets(lists::used(own), bytes))
@@ -485,11 +463,11 @@ impl Touched {
 fn conflict(one: (&Touched, &Record), other: (&Touched, &Record)) -> bool {
     let (a, b) = (one.0, other.0);
     let either = |kind| a.kind == kind || b.kind == kind;
-    if meet(&a.status, &b.status) || (either(Kind::Write) && meet(&a.sectors, &b.sectors)) {
+    if meet(&a.posted(), &b.posted()) || (either(Kind::Write) && meet(&a.sectors, &b.sectors)) {
         return true;
     }
-    let near = meet(&a.status, &b.data)
-        || meet(&a.data, &b.status)
+    let near = meet(&a.posted(), &b.data)
+        || meet(&a.data, &b.posted())
         || (either(Kind::Read) && meet(&a.data, &b.data));
     near && (!(a.listed || b.listed) || ranges_conflict(one, other))
 }
@@ -497,7 +475,7 @@ fn conflict(one: (&Touched, &Record), other: (&Touched, &Record)) -> bool {
 /// Whether one of two commands, of which one has a list, writes data or status over the other's.
 #[inline(never)]
 fn ranges_conflict((a, one): (&Touched, &Record), (b, other): (&Touched, &Record)) -> bool {
-    if b.data_meets(other, &a.status) || a.data_meets(one, &b.status) {
+    if b.data_meets(other, &a.posted()) || a.data_meets(one, &b.posted()) {
         return true;
     }
     if a.kind != Kind::Read && b.kind != Kind::Read {
@@ -535,14 +513,12 @@ fn take(
         move_sectors(memory, image, r, kind == Kind::Read, taken);
     }
     r.taken += taken;
-    if finished(r) && sister::is_its(r) {
-        sister::close(memory, r);
-    } else if finished(r) {
+    if finished(r) {
         close(memory, drive_of(drives, r.unit), r);
     }
 }
 
-/// Posts the status of a 753's command that has no step left.
+/// Posts the status of a command that has no step left.
 #[inline(always)]
 fn close(memory: &mut [u8], drive: &Drive, r: &Record) {
     let errs = if r.code == 0 { 0 } else { 0x80 };

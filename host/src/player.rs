@@ -2,12 +2,11 @@
 //! that page says. The state, the lines that set it and the text of the answers are the second program's;
 //! every call is the board's. A `deck` is no call on the board: `decks` has it played.
 
-use crate::archive::{Images, ImagesMut};
+use crate::archive::ImagesMut;
 use crate::boards::{Board, ARCHIVE};
-use crate::declared::{LentDrives, Ran, Record, Walked};
+use crate::declared::{LentDrives, Ran, Record};
 use crate::translate::{
-    drive_of, drives_of, record_of, second_fields_431_of, second_fields_of, second_place_of,
-    second_record_of,
+    drive_of, drives_of, record_of, second_fields_of, second_place_of, second_record_of,
 };
 use second::run::{PicksReply, WrittenReply};
 use second::trial::answer::Answer;
@@ -67,12 +66,6 @@ impl Player<'_> {
         Ok(match line {
             Line::Walk(start) => self.walk("walk", BY_VALUE, *start),
             Line::LentWalk(start) => self.walk("lentwalk", self.state.lent, *start),
-            Line::Walk431 { relocation, start } => {
-                self.walk_431("walk431", BY_VALUE, *relocation, *start)
-            }
-            Line::LentWalk431 { relocation, start } => {
-                self.walk_431("lentwalk431", self.state.lent, *relocation, *start)
-            }
             Line::Pick(place) => self.pick("pick", BY_VALUE, *place),
             Line::LentPick(place) => self.pick("lentpick", self.state.lent, *place),
             Line::Picks(picks) => self.picks(records, picks),
@@ -82,8 +75,6 @@ impl Player<'_> {
             Line::Place(sector) => self.place(*sector as u32),
             Line::Fields(at) => self.fields(*at as u32),
             Line::View(at) => self.view(*at as u32),
-            Line::Fields431(at) => self.fields_431(*at as u32),
-            Line::View431(at) => self.view_431(*at as u32),
             Line::Deck(_) => return Err("a deck is for the bench, and not for a board".into()),
             other => return self.state.play(other),
         })
@@ -113,33 +104,8 @@ impl Player<'_> {
 
     fn walk(&mut self, word: &'static str, records: usize, start: u64) -> Answer {
         let walk = self.board.walk;
-        self.walk_by(word, records, |memory, images, drives, table| {
-            walk(memory, images, drives, start as u32, table)
-        })
-    }
-
-    fn walk_431(
-        &mut self,
-        word: &'static str,
-        records: usize,
-        relocation: u64,
-        start: u64,
-    ) -> Answer {
-        let walk = self.board.walk_431;
-        self.walk_by(word, records, |memory, images, drives, table| {
-            walk(memory, images, drives, relocation as u16, start as u16, table)
-        })
-    }
-
-    /// Walks by one of the two walks; the state takes over how many commands there are.
-    fn walk_by(
-        &mut self,
-        word: &'static str,
-        records: usize,
-        walk: impl FnOnce(&[u8], &Images, &LentDrives, &mut [Record]) -> Walked,
-    ) -> Answer {
         let walked = self.over_table(records, |memory, images, drives, table, _| {
-            walk(memory, &images.each_ref().map(|image| &**image), drives, table)
+            walk(memory, &images.each_ref().map(|image| &**image), drives, start as u32, table)
         });
         let (number, commands) = (walked.number, walked.commands as u64);
         self.state.commands = commands;
@@ -196,34 +162,21 @@ impl Player<'_> {
         Answer::Place { number: placed.number, place: second_place_of(&placed.place) }
     }
 
-    /// What a viewer gives for any address. A board's viewer takes even ones alone, so an odd one is
+    /// The fields at any address. A board's viewer takes even ones alone, so an odd one is
     /// viewed one byte earlier in the memory that begins one byte later.
-    fn viewed<F>(&self, view: fn(&[u8], u32) -> F, at: u32) -> F {
-        let memory = &self.state.board.memory;
-        match at % 2 {
+    fn fields(&self, at: u32) -> Answer {
+        let (memory, view) = (&self.state.board.memory, self.board.view);
+        let fields = match at % 2 {
             1 if memory.is_empty() => view(memory, at - 1),
             1 => view(&memory[1..], at - 1),
             _ => view(memory, at),
-        }
-    }
-
-    fn fields(&self, at: u32) -> Answer {
-        Answer::Fields(second_fields_of(&self.viewed(self.board.view, at)))
-    }
-
-    fn fields_431(&self, at: u32) -> Answer {
-        Answer::Fields431(second_fields_431_of(&self.viewed(self.board.view_431, at)))
+        };
+        Answer::Fields(second_fields_of(&fields))
     }
 
     fn view(&self, at: u32) -> Answer {
         let memory = &self.state.board.memory;
         let fields = second_fields_of(&(self.board.view)(memory, at));
         Answer::View { number: (self.board.view_number)(memory, at), fields }
-    }
-
-    fn view_431(&self, at: u32) -> Answer {
-        let memory = &self.state.board.memory;
-        let fields = second_fields_431_of(&(self.board.view_431)(memory, at));
-        Answer::View431 { number: (self.board.view_431_number)(memory, at), fields }
     }
 }

@@ -4,7 +4,6 @@
 use crate::archive::{Images, ImagesMut};
 use crate::declared::{Drive, LentDrives, Link, Place, Record};
 use crate::field::Fields;
-use crate::field_431::Fields431;
 use second::board::{Board, Unit};
 use std::array::from_fn;
 
@@ -74,7 +73,6 @@ pub fn record_of(record: &second::record::Record) -> Record {
         sector: record.sector,
         taken: record.taken,
         ranges: record.ranges,
-        front: record.front,
         count: record.count,
         byte0: record.byte0,
         code: record.code,
@@ -97,7 +95,6 @@ pub fn second_record_of(record: &Record) -> second::record::Record {
         ranges: record.ranges,
         fitted: record.fitted,
         unit: record.unit,
-        front: record.front,
         list: record.list.map(second_range_of),
         unused: record.list.map(|link| link.unused),
     }
@@ -124,27 +121,5 @@ pub fn second_fields_of(fields: &Fields) -> second::iopb::Fields {
         sector: fields.sector.into(),
         data: fields.data_address.into(),
         next: fields.next_address.into(),
-    }
-}
-
-/// The second program's fields of a 431's IOPB, from the archive's.
-pub fn second_fields_431_of(fields: &Fields431) -> second::sister::iopb::SisterFields {
-    second::sister::iopb::SisterFields {
-        device_type: fields.device.into(),
-        unit: fields.unit.into(),
-        chen: fields.chen.into(),
-        command: fields.command.into(),
-        next: fields.next_address.into(),
-        ersm: fields.ersm.into(),
-        controller_type: fields.controller.into(),
-        done: fields.done.into(),
-        code: fields.completion.into(),
-        head: fields.head.into(),
-        sector: fields.sector.into(),
-        cylinder: fields.cylinder.into(),
-        count: fields.count.into(),
-        data: fields.data_address.into(),
-        data_relocation: fields.data_relocation.into(),
-        subfunction: fields.subfunction.into(),
     }
 }

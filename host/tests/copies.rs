@@ -8,9 +8,7 @@ const SIZES: Sizes = Sizes { record: 20, table: 640 };
 /// there is no end to it. `%a0` and `%a1` are lent.
 fn picked(body: &str, more: &str) -> Option<usize> {
     let mut module = String::new();
-    let others =
-        ["rosadenca_walk", "rosadenca_walk_431", "rosadenca_run_picks", "rosadenca_run_written"];
-    for name in others {
+    for name in ["rosadenca_walk", "rosadenca_run_picks", "rosadenca_run_written"] {
         module +=
             &format!("define void @{name}(ptr noundef %a0) #0 {{\nstart:\n  ret void\n}}\n\n");
     }
@@ -116,7 +114,7 @@ fn sectors_are_no_tables() {
 fn what_cannot_be_followed_is_an_error() {
     let module = |body: &str| {
         let mut module = String::new();
-        for name in ["walk", "walk_431", "pick", "run_picks", "run_written"] {
+        for name in ["walk", "pick", "run_picks", "run_written"] {
             module += &format!(
                 "define void @rosadenca_{name}(ptr %a0) {{\nstart:\n{body}  ret void\n}}\n"
             );

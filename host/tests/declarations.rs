@@ -5,7 +5,7 @@
 mod reading;
 
 use host::declared::{
-    Drive, Iopb, Iopb431, LentDrives, Link, Part, Place, Placed, Ran, Record, Walked, UNITS,
+    Drive, Iopb, LentDrives, Link, Part, Place, Placed, Ran, Record, Walked, UNITS,
 };
 use reading::{c_header, differences, rattle, rust, Declared};
 use std::mem::{align_of, offset_of, size_of};
@@ -36,7 +36,7 @@ fn source() -> Declared {
 
 fn hold(name: &str, declared: &Declared) {
     let source = source();
-    assert!(source.functions.len() == 11 && source.structs.len() == 11, "the source was not read");
+    assert!(source.functions.len() == 9 && source.structs.len() == 10, "the source was not read");
     let found = differences(("the source", &source), (name, declared));
     assert!(found.is_empty(), "{name} is not what the source exports:\n{}", found.join("\n"));
 }
@@ -56,8 +56,7 @@ const MISTAKES: &[(&str, &str)] = &[
     ("uint16_t count;", "uint32_t count;"),
     ("uint32_t address;", "uint32_t data;"),
     ("    uint8_t byte0;", ""),
-    ("    uint8_t ranges;", "    uint16_t ranges;"),
-    ("    uint8_t front;", ""),
+    ("    uint16_t ranges;", "    uint32_t ranges;"),
     ("    uint8_t fitted;", ""),
     ("    uint8_t unit;     ", "    uint16_t unit;     "),
     ("    bool present;", ""),
@@ -67,10 +66,6 @@ const MISTAKES: &[(&str, &str)] = &[
     ("rosadenca_drives drives, uint8_t unit,", "rosadenca_drives drives, uint32_t unit,"),
     ("rosadenca_drives drives, uint8_t unit,", "rosadenca_drive drives, uint8_t unit,"),
     ("rosadenca_drives drives, uint32_t start,", "uint32_t start, rosadenca_drives drives,"),
-    ("uint16_t relocation,\n", "uint32_t relocation,\n"),
-    ("    uint16_t data_relocation;", "    uint32_t data_relocation;"),
-    ("    uint8_t controller;", ""),
-    ("rosadenca_iopb_431 rosadenca_view_431(", "rosadenca_iopb rosadenca_view_431("),
     ("const uint8_t *image3, size_t image3_length, rosadenca", "rosadenca"),
     ("    uint16_t length;", "    uint32_t length;"),
     ("rosadenca_link list[ROSADENCA_MOST_LINKS];", "rosadenca_link list[ROSADENCA_IOPB_BYTES];"),
@@ -157,7 +152,6 @@ fn assertions() -> String {
         (sector, "sector"),
         (taken, "taken"),
         (ranges, "ranges"),
-        (front, "front"),
         (count, "count"),
         (byte0, "byte0"),
         (code, "code"),
@@ -199,28 +193,6 @@ fn assertions() -> String {
         (head, "head"),
         (sector, "sector")
     );
-    layout!(
-        text,
-        Iopb431,
-        "rosadenca_iopb_431",
-        (next_address, "next_address"),
-        (cylinder, "cylinder"),
-        (count, "count"),
-        (data_address, "data_address"),
-        (data_relocation, "data_relocation"),
-        (number, "number"),
-        (device, "device"),
-        (unit, "unit"),
-        (chen, "chen"),
-        (command, "command"),
-        (ersm, "ersm"),
-        (controller, "controller"),
-        (done, "done"),
-        (completion, "completion"),
-        (head, "head"),
-        (sector, "sector"),
-        (subfunction, "subfunction")
-    );
     layout!(text, Part, "rosadenca_part", (at, "at"), (length, "length"));
     text
 }
@@ -261,7 +233,6 @@ fn the_headers_limits_are_the_second_programs() {
         ("ROSADENCA_UNITS", second::board::UNITS),
         ("ROSADENCA_MOST_COMMANDS", second::record::MOST_COMMANDS),
         ("ROSADENCA_IOPB_BYTES", second::iopb::IOPB_BYTES),
-        ("ROSADENCA_IOPB_431_BYTES", second::sister::iopb::SISTER_BYTES),
         ("ROSADENCA_MOST_LINKS", second::link_list::MOST_ELEMENTS),
         ("ROSADENCA_LINK_BYTES", second::link_list::ELEMENT_BYTES),
     ];
@@ -280,7 +251,6 @@ fn the_short_forms_are_cpp_too() {
         rosadenca_lent lent = rosadenca_one_drive(memory, 4096, image, 16384, drive);\n\
         rosadenca_add_drive(&lent, 3, image + 16384, 16384, drive);\n\
         rosadenca_walked walked = rosadenca_walk_lent(&lent, 0, table, ROSADENCA_MOST_COMMANDS);\n\
-        if (walked.number != 0) walked = rosadenca_walk_431_lent(&lent, 16, 0, table, 32);\n\
         return rosadenca_run_written_lent(&lent, table, 32, walked.commands, 1);\n}\n";
     compiles("one_drive.c", text).unwrap_or_else(|said| panic!("{said}"));
     match compiles_by("c++", "-std=c++11", "one_drive.cpp", text) {

@@ -1,5 +1,5 @@
 //! What the example in C says of a closed IOPB, for every kind of status that tells how much would have
-//! fitted or does not, and for every code of a 431. Its own disk is too small for some of them.
+//! fitted or does not. Its own disk is too small for some of them.
 
 use std::path::{Path, PathBuf};
 use std::process::Command;
@@ -21,23 +21,6 @@ const STATUSES: [(u8, u8, u8, &str); 13] = [
     (0x00, 0, 0, "it went well"),
 ];
 
-/// The code of a closed IOPB of a 431, and the words for it.
-const STATUSES_431: [(u8, &str); 12] = [
-    (0x60, "the board has no such command"),
-    (0x80, "the device type is not that of a Winchester drive"),
-    (0x90, "a 431 has Winchester units 0 and 1 alone"),
-    (0x34, "the unit is absent, so no drive is ready"),
-    (0x50, "the count of sectors is zero"),
-    (0x10, "the cylinder is above its maximum, or the sectors go past the end of the drive"),
-    (0x20, "the head is too high"),
-    (0x30, "the sector is too high for its head"),
-    (0x94, "the drive is protected"),
-    (0x54, "past the end of memory"),
-    (0x00, "it went well"),
-    // a 753's code for the same
-    (0x4B, "a code that the rules do not have"),
-];
-
 fn repository() -> PathBuf {
     Path::new(env!("CARGO_MANIFEST_DIR")).join("..")
 }
@@ -53,9 +36,6 @@ fn program() -> String {
     );
     for (code, sgm, byte3, _) in STATUSES {
         text += &format!("    say({code}, {sgm}, {byte3});\n");
-    }
-    for (code, _) in STATUSES_431 {
-        text += &format!("    puts(code_431_in_words({code}));\n");
     }
     text + "    return 0;\n}\n"
 }
@@ -80,7 +60,6 @@ fn every_status_has_its_words() {
     assert!(compiled.status.success(), "{}", String::from_utf8_lossy(&compiled.stderr));
     let said = Command::new(&made).output().expect("the program in C can be run");
     let said = String::from_utf8(said.stdout).expect("it says text");
-    let words = STATUSES.iter().map(|(_, _, _, words)| *words);
-    let words: Vec<&str> = words.chain(STATUSES_431.iter().map(|(_, words)| *words)).collect();
+    let words: Vec<&str> = STATUSES.iter().map(|(_, _, _, words)| *words).collect();
     assert_eq!(said.lines().collect::<Vec<_>>(), words);
 }

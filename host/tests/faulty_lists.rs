@@ -144,11 +144,11 @@ fn a_list_looked_up_again_is_found() {
         },
     );
     must_be_found(
-        "takes 6 bits of the number of ranges",
+        "takes 8 bits of the number of ranges",
         Board {
             run_written: |memory, images, drives, table, commands, budget| {
-                let right: Vec<u8> = table.iter().map(|record| record.ranges).collect();
-                table.iter_mut().for_each(|record| record.ranges &= 0x3F);
+                let right: Vec<u16> = table.iter().map(|record| record.ranges).collect();
+                table.iter_mut().for_each(|record| record.ranges &= 0xFF);
                 let ran = (ORDINARY.run_written)(memory, images, drives, table, commands, budget);
                 let records = table.iter_mut().zip(right);
                 records.for_each(|(record, ranges)| record.ranges = ranges);

@@ -4,7 +4,6 @@
 
 use crate::range::Range;
 use crate::record::Record;
-use crate::sister::iopb::STATUS_AT;
 use std::collections::BTreeSet;
 
 /// A sector: its unit and its number there. Those of different units are never
@@ -21,15 +20,10 @@ pub struct Touched {
     pub sectors_written: BTreeSet<Sector>,
 }
 
-/// The status bytes of a command's own IOPB: bytes 0 to 3 of the 753's, bytes 4
-/// and 5 of the 431's.
+/// The four status bytes of a command's own IOPB.
 pub fn status_bytes(record: &Record) -> BTreeSet<u64> {
-    let iopb = u64::from(record.iopb);
-    if record.of_the_431() {
-        (iopb + STATUS_AT..iopb + STATUS_AT + 2).collect()
-    } else {
-        (iopb..iopb + 4).collect()
-    }
+    let first = u64::from(record.iopb);
+    (first..first + 4).collect()
 }
 
 /// The data bytes of a transfer with code 00, of all its ranges; none for any

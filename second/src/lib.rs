@@ -1,5 +1,5 @@
 //! A second, independent model of the board, written from document 01, tickets 1
-//! to 6 of document 02 and the two manuals alone. It is slow and plain on purpose: it
+//! to 5 of document 02 and the manual alone. It is slow and plain on purpose: it
 //! says what the rules say, so that a faster board can be held against it, case by
 //! case.
 
@@ -17,9 +17,6 @@ pub mod range;
 pub mod record;
 pub mod run;
 pub mod walk;
-
-// The other front end: chains of a 431.
-pub mod sister;
 
 // The bench program.
 pub mod bench;

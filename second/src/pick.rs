@@ -5,7 +5,6 @@ use crate::board::{Board, SECTOR_BYTES};
 use crate::conflict::{conflict, touched, Touched};
 use crate::range::bytes_end_to_end;
 use crate::record::{causes, Record, MOST_COMMANDS};
-use crate::sister::close::sister_close;
 
 const ERRS: u8 = 0x80;
 const DONE: u8 = 0x40;
@@ -61,9 +60,7 @@ pub fn take_step(board: &mut Board, record: &mut Record) {
     }
     record.taken += 1;
     // The close comes after the last sector has moved, never before.
-    if record.finished() && record.of_the_431() {
-        sister_close(board, record);
-    } else if record.finished() {
+    if record.finished() {
         close(board, record);
     }
 }
@@ -86,7 +83,7 @@ fn move_sector(board: &mut Board, record: &Record) {
     }
 }
 
-/// Writes the four status bytes of the 753. All are made from the record, since data may
+/// Writes the four status bytes. All are made from the record, since data may
 /// have come to lie over the IOPB in the meantime; so is byte 3, whatever the
 /// code. Byte 2 asks the unit that the record names, as it is now.
 fn close(board: &mut Board, record: &Record) {

@@ -5,16 +5,10 @@ use crate::board::{Board, SECTOR_BYTES};
 use crate::iopb::IOPB_BYTES;
 use crate::link_list::MOST_ELEMENTS;
 use crate::range::{sum_of_lengths, Range};
-use crate::sister::iopb::SISTER_BYTES;
 use std::collections::BTreeSet;
 
 /// The most commands that a table may have.
 pub const MOST_COMMANDS: u64 = 32;
-
-/// What the 753's walk writes in a record's last field.
-pub const FRONT_753: u8 = 0;
-/// What the 431's walk writes there.
-pub const FRONT_431: u8 = 1;
 
 /// What the walk copies from one IOPB and its link list, its unit among it, its
 /// code, how many sectors would have fitted, and the steps taken so far.
@@ -25,21 +19,16 @@ pub struct Record {
     pub sector: u32,
     pub taken: u32,
     pub count: u16,
-    /// The copied byte of the IOPB that has the command in its bits 3-0: byte 0 of
-    /// the 753's, byte 1 of the 431's.
     pub byte0: u8,
     pub code: u8,
     /// How many ranges the list has; 0 where the command has no list. A table
     /// made by hand may claim more than there is room for.
-    pub ranges: u8,
+    pub ranges: u16,
     /// How many sectors would have fitted: the close posts it as it stands. A
     /// table made by hand may hold any number with any code.
     pub fitted: u8,
     /// The unit: 0 to 7 after a walk. A table made by hand may name any.
     pub unit: u8,
-    /// Whose IOPB it is: 1 for the 431, every other value for the 753. A table
-    /// made by hand may hold any.
-    pub front: u8,
     pub list: [Range; MOST_ELEMENTS as usize],
     /// Two bytes beside each range that no one looks at: 0 after a walk. They
     /// are here for the digest, so that a board which fills them is found out.
@@ -49,20 +38,6 @@ pub struct Record {
 impl Record {
     pub fn command(&self) -> u8 {
         self.byte0 & 0x0F
-    }
-
-    /// It is a record of the 431. All others are of the 753.
-    pub fn of_the_431(&self) -> bool {
-        self.front == FRONT_431
-    }
-
-    /// How many bytes its IOPB has.
-    pub fn iopb_bytes(&self) -> u64 {
-        if self.of_the_431() {
-            SISTER_BYTES
-        } else {
-            IOPB_BYTES
-        }
     }
 
     /// A Write Data with code 00.
@@ -136,8 +111,7 @@ pub enum Cause {
 
 /// Every cause of number 9 in the table; number 9 is given exactly where
 /// there is one. Only records in use are looked at, of none how many sectors
-/// would have fitted, of transfers alone the unit, and which front end it is of
-/// for its IOPB alone.
+/// would have fitted, and of transfers alone the unit.
 pub fn causes(board: &Board, table: &[Record], commands: u64) -> BTreeSet<Cause> {
     let mut found = BTreeSet::new();
     if commands > MOST_COMMANDS {
@@ -151,7 +125,7 @@ pub fn causes(board: &Board, table: &[Record], commands: u64) -> BTreeSet<Cause>
 }
 
 fn causes_in_record(board: &Board, record: &Record, found: &mut BTreeSet<Cause>) {
-    if !board.in_memory(u64::from(record.iopb), record.iopb_bytes()) {
+    if !board.in_memory(u64::from(record.iopb), IOPB_BYTES) {
         found.insert(Cause::IopbOutside);
     }
     if u64::from(record.taken) > record.steps() {

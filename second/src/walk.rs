@@ -1,12 +1,12 @@
-//! The walk of the 753: from a first address along the chain, copying what is
-//! needed of every IOPB and of its link list into the table before anything moves.
+//! The walk: from a first address along the chain, copying what is needed of
+//! every IOPB and of its link list into the table before anything moves.
 
 use crate::board::Board;
 use crate::code::{find, next_misaligned};
 use crate::iopb::{fields_at, Fields, IOPB_BYTES};
 use crate::link_list::MOST_ELEMENTS;
 use crate::range::Range;
-use crate::record::{Record, FRONT_753, MOST_COMMANDS};
+use crate::record::{Record, MOST_COMMANDS};
 use std::collections::BTreeSet;
 
 /// What a walk answers. `reached` has the address of every IOPB that the walk
@@ -80,10 +80,9 @@ fn record_of(board: &Board, address: u64, fields: &Fields) -> Record {
         count: fields.count as u16,
         byte0: board.memory[address as usize],
         code: found.code,
-        ranges: found.list.len() as u8,
+        ranges: found.list.len() as u16,
         fitted: found.fitted,
         unit: fields.unit as u8,
-        front: FRONT_753,
         list,
         unused: [0; MOST_ELEMENTS as usize],
     }

@@ -370,9 +370,9 @@ fn a_refused_walk_keeps_the_numbers() {
 }
 
 #[test]
-fn ranges_have_eight_bits() {
+fn ranges_have_sixteen_bits() {
     let board = ground(bench(), 0x1000);
-    for ranges in [33, 65, 127, 128, 129, 254, 255] {
+    for ranges in [33, 255, 256, 257, 0x8001, 65_503, 65_535] {
         let mut record = Record { count: 1, byte0: READ, ranges, ..Record::default() };
         record.list[0] = Range { address: 0x800, length: 512 };
         assert_eq!(pick(&mut board.clone(), &mut [record; 32], 1, 0), 9, "{ranges} ranges");

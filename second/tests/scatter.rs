@@ -386,7 +386,7 @@ fn conflicts_by_ranges() {
 fn number_with(pieces: Pieces, change: impl Fn(&mut Record)) -> u8 {
     let mut board = ground();
     let mut table = [Record::default(); 32];
-    let ranges = pieces.len() as u8;
+    let ranges = pieces.len() as u16;
     let (data, sector, count) = (0xFFFF_FFFF, 8, 2);
     table[0] = Record { data, sector, count, byte0: 0x12, ranges, ..Record::default() };
     for (range, (address, length)) in table[0].list.iter_mut().zip(pieces) {
@@ -407,7 +407,7 @@ fn number_with(pieces: Pieces, change: impl Fn(&mut Record)) -> u8 {
 #[test]
 fn number_nine_looks_at_every_range_and_their_sum() {
     let full: Vec<(u32, u16)> = (0..32).map(|k| (0x600 + 40 * k, 32)).collect();
-    for (ranges, number) in [(32, 0), (33, 9), (64, 9), (160, 9), (u8::MAX, 9), (31, 9)] {
+    for (ranges, number) in [(32, 0), (33, 9), (288, 9), (0x8020, 9), (u16::MAX, 9), (31, 9)] {
         assert_eq!(number_with(&full, |record| record.ranges = ranges), number);
     }
     for (first, second, number) in [
@@ -433,7 +433,7 @@ fn number_nine_looks_at_every_range_and_their_sum() {
     let bad: Pieces = &[(0xFFFF_FFFF, 9)];
     assert_eq!(number_with(bad, |record| record.code = 0x1C), 0);
     assert_eq!(number_with(bad, |record| record.byte0 = 0x10), 0);
-    assert_eq!(number_with(bad, |record| (record.byte0, record.ranges) = (0, u8::MAX)), 0);
+    assert_eq!(number_with(bad, |record| (record.byte0, record.ranges) = (0, u16::MAX)), 0);
     assert_eq!(number_with(bad, |record| record.byte0 = 2), 9);
     assert_eq!(number_with(&[(0x600, 1024)], |record| record.byte0 = 2), 0);
     assert_eq!(number_with(bad, |record| (record.ranges, record.data) = (0, 0xC00)), 0);

@@ -33,7 +33,7 @@ fn every_line_reads_back_as_itself() {
 }
 
 /// Lines that the format has not.
-const OUTSIDE: [&str; 76] = [
+const OUTSIDE: [&str; 58] = [
     "",
     " ",
     "walk",
@@ -68,46 +68,28 @@ const OUTSIDE: [&str; 76] = [
     "look 256 0",
     "look 0 4294967296",
     "look 0 0 0",
-    "record 40 0 0 0 0 0 0 0 0 0 0 0",
-    "record 0 0 0 0 0 0 0 0 0 0 0",
-    "record 0 0 0 0 0 0 0 0 0 0 0 0 0",
-    "record 0 0 0 0 0 0 0 0 256 0 0 0",
-    "record 0 0 0 0 0 0 0 0 0 256 0 0",
-    "record 0 0 0 0 0 0 0 0 0 0 256 0",
-    "record 0 0 0 0 0 0 0 0 0 0 0 256",
+    "record 40 0 0 0 0 0 0 0 0 0 0",
+    "record 0 0 0 0 0 0 0 0 0 0",
+    "record 0 0 0 0 0 0 0 0 0 0 0 0",
+    "record 0 0 0 0 0 0 0 0 65536 0 0",
+    "record 0 0 0 0 0 0 0 0 0 256 0",
+    "record 0 0 0 0 0 0 0 0 0 0 256",
     "range 40 0 0 0",
     "range 0 32 0 0",
     "range 0 0 4294967296 0",
     "range 0 0 0 65536",
     "range 0 0 0",
     "range 0 0 0 0 0",
-    "spoil 0 11 0",
-    "spoil 0 10 256",
+    "spoil 0 10 0",
     "spoil 0 9 256",
     "spoil 0 8 256",
-    "spoil 0 7 256",
+    "spoil 0 7 65536",
     "spoil 0 4 65536",
     "spoil 0 5 256",
     "commands 4294967296",
     "lent 41",
     "picks 256",
     "written 18446744073709551616",
-    "walk431 0",
-    "walk431 0 0 0",
-    "walk431 65536 0",
-    "walk431 0 65536",
-    "lentwalk431 0",
-    "lentwalk431 0 0 0",
-    "lentwalk431 65536 0",
-    "lentwalk431 0 65536",
-    "fields431",
-    "fields431 0 0",
-    "fields431 4294967296",
-    "view431",
-    "view431 0 0",
-    "view431 4294967296",
-    "walk 431 0",
-    "walk432 0 0",
     "Walk 0",
     "comment",
 ];
@@ -187,7 +169,7 @@ put 0 18 0 0 0 0 0 16 0 0 1 0 0 0 1 0 0 0 0 0 64
 put 64 0 100 229 214 0 0 2 0 1 156 229 214 0 0 1 0
 walk 0
 pick 0
-record 1 32 64 1 0 1 2 0 2 0 0 0
+record 1 32 64 1 0 1 2 0 2 0 0
 range 1 0 512 100
 range 1 1 256 411
 commands 2
@@ -197,10 +179,10 @@ pick 1
 ";
 
 const LIST_ANSWERS: &str = "case 2
-walk 0 1 b22d0ee7 ce2459c5 aa7476c3
-pick 0 15d0ad0c ce2459c5 677ca296
-pick 9 15d0ad0c ce2459c5 79437ed9
-pick 0 4f187459 ce2459c5 052021d7
+walk 0 1 b22d0ee7 ce2459c5 f1f39bb7
+pick 0 15d0ad0c ce2459c5 aefbc78a
+pick 9 15d0ad0c ce2459c5 86c6d941
+pick 0 4f187459 ce2459c5 12a37c3f
 ";
 
 const FITTED_CASE: &str = "case 3
@@ -212,7 +194,7 @@ walk 0
 put 8 0 1
 pick 0
 fields 0
-record 1 32 512 1 0 1 2 0 0 77 0 0
+record 1 32 512 1 0 1 2 0 0 77 0
 commands 2
 pick 1
 fields 32
@@ -271,41 +253,6 @@ pick 9 750af665 24a19158 6f5da615
 look 1 0 811c9dc5
 ";
 
-const SISTER_CASE: &str = "case 5
-drive 0 0 1 1 0
-memory 1024 0 0
-image 1024 7 1 0
-put 32 32 66 48 0 0 0 0 1 0 0 1 0 0 0 32 0
-put 64 32 65 49 0 1 9 0 2 0 0 1 0 0 2 0 0
-walk431 1 16
-steps
-pick 1
-fields431 64
-pick 0
-fields431 32
-walk431 65535 48
-view431 33
-record 0 1000 0 0 0 0 0 0 0 0 0 1
-commands 1
-pick 0
-spoil 0 3 0
-spoil 0 10 0
-pick 0
-";
-
-const SISTER_ANSWERS: &str = "case 5
-walk431 0 2 aff02904 743661c5 3662d859
-steps 2
-pick 0 1e7f79bb 743661c5 c7e64a0c
-fields431 1 0 1 1 49 1 5 1 48 0 2 0 1 512 0 0
-pick 0 9bfa4596 743661c5 84ee75df
-fields431 1 0 1 2 48 0 5 1 0 0 1 0 1 0 32 0
-walk431 4 0 9bfa4596 743661c5 84ee75df
-view431 2 0 0 0 0 0 0 0 0 0 0 0 0 0 0 0 0
-pick 0 f89e5531 743661c5 68baace0
-pick 9 f89e5531 743661c5 29fb93e2
-";
-
 /// What a run of cases prints.
 fn played(cases: &str) -> String {
     let mut out = Vec::new();
@@ -319,19 +266,18 @@ fn the_worked_cases() {
     assert_eq!(played(LIST_CASE), LIST_ANSWERS);
     assert_eq!(played(FITTED_CASE), FITTED_ANSWERS);
     assert_eq!(played(UNITS_CASE), UNITS_ANSWERS);
-    assert_eq!(played(SISTER_CASE), SISTER_ANSWERS);
 }
 
 /// A range line sets one range alone, and a record line sets all to 0. The
 /// digests were worked out apart from this program.
 #[test]
 fn ranges_in_the_digest() {
-    let ground = "case 1\ndrive 0 0 0 0 0\nimage 512 0 0 0\nrecord 1 1 2 3 4 5 6 7 8 9 0 10\n";
+    let ground = "case 1\ndrive 0 0 0 0 0\nimage 512 0 0 0\nrecord 1 1 2 3 4 5 6 7 8 9 0\n";
     let ranges = "range 1 0 9 10\nrange 1 31 4294967295 65535\npick 0\n";
-    let more = "spoil 1 7 255\npick 0\nspoil 1 8 255\npick 0\nspoil 1 10 255\npick 0\n";
-    let again = "record 1 1 2 3 4 5 6 7 8 9 0 10\npick 0\n";
+    let more = "spoil 1 7 65535\npick 0\nspoil 1 8 255\npick 0\n";
+    let again = "record 1 1 2 3 4 5 6 7 8 9 0\npick 0\n";
     let answers = played(&format!("{ground}{ranges}{more}{again}"));
     let tables: Vec<&str> =
         answers.lines().skip(1).filter_map(|line| line.split(' ').last()).collect();
-    assert_eq!(tables, ["562af4d1", "1db1cbf8", "07548e5e", "9b35fae5", "50e4db1c"]);
+    assert_eq!(tables, ["48d9c633", "b193387f", "9b35fae5", "4393ac7e"]);
 }

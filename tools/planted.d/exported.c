@@ -15,7 +15,6 @@ typedef struct {
 #define DISKS const run *, const run *, const run *, const run *, const rosadenca_drives *
 
 void inner_rosadenca_walk(rosadenca_walked *, const run *, DISKS, uint32_t, const run *);
-void inner_rosadenca_walk_431(rosadenca_walked *, const run *, DISKS, uint32_t, uint32_t, const run *);
 uint32_t inner_rosadenca_pick(const run *, DISKS, const run *, size_t, size_t);
 void inner_rosadenca_run_picks(rosadenca_ran *, const run *, DISKS, const run *, size_t, const run *);
 void inner_rosadenca_run_written(rosadenca_ran *, const run *, DISKS, const run *, size_t, uint64_t);
@@ -23,7 +22,6 @@ void inner_rosadenca_look(rosadenca_part *, DISKS, uint32_t, uint32_t);
 uint32_t inner_rosadenca_look_number(DISKS, uint32_t, uint32_t);
 void inner_rosadenca_place(rosadenca_placed *, const rosadenca_drive *, uint32_t);
 void inner_rosadenca_view(rosadenca_iopb *, const run *, uint32_t);
-void inner_rosadenca_view_431(rosadenca_iopb_431 *, const run *, uint32_t);
 uint64_t inner_rosadenca_chain_steps(const run *, size_t);
 
 /* The same as they are passed here, of the parameters of these names. */
@@ -37,16 +35,6 @@ rosadenca_walked rosadenca_walk(const uint8_t *memory, size_t memory_length, con
 {
     rosadenca_walked walked;
     inner_rosadenca_walk(&walked, &(run){memory, memory_length}, GIVEN_DISKS, start, &(run){table, table_length});
-    return walked;
-}
-
-rosadenca_walked rosadenca_walk_431(const uint8_t *memory, size_t memory_length, const uint8_t *image0, size_t image0_length,
-                                    const uint8_t *image1, size_t image1_length, const uint8_t *image2, size_t image2_length,
-                                    const uint8_t *image3, size_t image3_length, rosadenca_drives drives, uint16_t relocation,
-                                    uint16_t start, rosadenca_record *table, size_t table_length)
-{
-    rosadenca_walked walked;
-    inner_rosadenca_walk_431(&walked, &(run){memory, memory_length}, GIVEN_DISKS, relocation, start, &(run){table, table_length});
     return walked;
 }
 
@@ -106,13 +94,6 @@ rosadenca_iopb rosadenca_view(const uint8_t *memory, size_t memory_length, uint3
 {
     rosadenca_iopb view;
     inner_rosadenca_view(&view, &(run){memory, memory_length}, at);
-    return view;
-}
-
-rosadenca_iopb_431 rosadenca_view_431(const uint8_t *memory, size_t memory_length, uint32_t at)
-{
-    rosadenca_iopb_431 view;
-    inner_rosadenca_view_431(&view, &(run){memory, memory_length}, at);
     return view;
 }
 

@@ -4,7 +4,6 @@ pub mod Edge
 pub mod Copying
 pub mod Windows
 pub mod Moving
-pub mod Closed
 pub mod Searching
 pub mod Picking
 pub mod Sighting

@@ -13,16 +13,13 @@ use borrow.Author.Tests.{eq-eqb, ne_eqb}
 use Rattle.meaning.specs.Drives.{Drives}
 use Rattle.meaning.specs.declared.Link.{Link}
 use Rattle.meaning.specs.declared.Record.{Record}
-use Rattle.meaning.specs.Store.{Store, memory, disk, lent, images, Move, post, move, moves}
+use Rattle.meaning.specs.Store.{Store, memory, disk, lent, images, Move, move, moves}
 use Rattle.meaning.specs.Sectors.{sector_bytes}
 use Rattle.meaning.specs.Ranges.{Range, bytes}
 use Rattle.meaning.specs.Links.{range_of}
-use Rattle.meaning.specs.declared.FrontEnd.{FrontEnd}
-use Rattle.meaning.specs.declared.FrontEnd.TheVariants.{Xylogics753, Xylogics431}
-use Rattle.meaning.specs.Front.{front_in, status_at}
 use Rattle.meaning.specs.Command.{reads, writes, transfers, steps_of, remaining, links_of}
 use Rattle.meaning.specs.Touch.{data_bytes}
-use Rattle.meaning.specs.Step.{sector_move, closing_byte0, closing_by, closing, close_move, step_moves, step, with_taken, stepped}
+use Rattle.meaning.specs.Step.{sector_move, closing_byte0, closing, close_move, step_moves, step, with_taken, stepped}
 use Rattle.meaning.specs.Sizes.{store_wrong}
 use Rattle.meaning.specs.Pick.{bad_record}
 use Rattle.meaning.specs.Run.{steps_done}
@@ -153,11 +150,7 @@ done_open d (suc k) r s h =
 
 close_stepped : (d : Drives) (r : Record) → close_move d (stepped r) ≡ close_move d r
 unfolding close_move closing closing_byte0 stepped with_taken
-close_stepped d r = ap (λ (bytes : List ℕ). post memory (status_at r) bytes ∷ []) (go (front_in r))
-  where
-    go : (f : FrontEnd) → closing_by f d (stepped r) ≡ closing_by f d r
-    go Xylogics753 = refl
-    go Xylogics431 = refl
+close_stepped d r = refl
 
 done_closed : (d : Drives) (n : ℕ) (r : Record) (s : Store) → r.taken + suc n ≡ steps_of r → steps_done d (suc n) r s ≡ moves (close_move d r) (sectors_moved (suc n) r s)
 unfolding steps_done sectors_moved stepped with_taken
@@ -180,10 +173,10 @@ one_step d r s = refl
 
 module _ (d : Drives) (n : ℕ) (r : Record) (s : Store) (m : List ℕ) (is : List (List ℕ)) (e : lent m is ≡ sectors_moved n r s) where
   -- all steps that remained are taken, and the command is closed
-  pub closed_done : 1 ≤ n → n ≡ remaining r → lent (sets m (status_at r) (closing d r)) is ≡ steps_done d n r s
+  pub closed_done : 1 ≤ n → n ≡ remaining r → lent (sets m r.iopb (closing d r)) is ≡ steps_done d n r s
   unfolding remaining close_move moves move
   closed_done h q =
-      sym (put_lent m is (closing d r) (status_at r))
+      sym (put_lent m is (closing d r) r.iopb)
       ∙ ap (moves (close_move d r)) e
       ∙ sym (go n h (omega arith))
     where

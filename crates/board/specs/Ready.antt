@@ -2,7 +2,6 @@
 -- them. Numbers 1, 9 and 7 are tested before a step is taken, and give it.
 use Rattle.std.specs.Prelude.{◌≡◌, ℕ, ◌+◌, ◌*◌, ◌≤◌, true}
 use Rattle.meaning.specs.declared.Record.{Record}
-use Rattle.meaning.specs.Front.{front_in, iopb_bytes_of}
 use Rattle.meaning.specs.Sectors.{sector_bytes}
 use Rattle.meaning.specs.Command.{transfers}
 use Rattle.meaning.specs.Touch.{data_bytes}
@@ -11,8 +10,8 @@ use Rattle.meaning.proofs.Conditions.{Inside}
 use Rattle.board.specs.Moved.{on_disk}
 
 pub record Ready (n : ℕ) (r : Record) (m i : ℕ) : Type 0 where
-  -- its IOPB, and so its status bytes
-  pub status : r.iopb + iopb_bytes_of (front_in r) ≤ m
+  -- its status bytes
+  pub status : r.iopb + 4 ≤ m
   -- of a transfer as many steps are left, all its data lies in memory, and the sectors of these steps lie on the disk
   pub left : transfers r ≡ true → r.taken + n ≤ r.count
   pub bytes : transfers r ≡ true → All (Inside m) (data_bytes r)

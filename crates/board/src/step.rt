@@ -9,7 +9,6 @@ ghost use Rattle.meaning.specs.Store.{Store, lent, images, move};
 ghost use Rattle.meaning.specs.Links.{range_of};
 ghost use Rattle.meaning.specs.Pieces.{piece_of};
 ghost use Rattle.meaning.specs.Command.{remaining};
-ghost use Rattle.meaning.specs.Front.{front_in, iopb_bytes_of, status_at};
 ghost use Rattle.meaning.specs.Step as step;
 ghost use Rattle.meaning.proofs.All.{All};
 ghost use Rattle.meaning.proofs.Conditions.{Inside};
@@ -18,9 +17,9 @@ ghost use Rattle.board.specs.OneUnit.{on_unit};
 ghost use Rattle.board.specs.Ready.{Ready};
 ghost use Rattle.board.specs.Moved.{sectors_moved, part_move, piece_move, window_moved};
 
-use chain::{front, links};
+use chain::links;
 use command::closing;
-use meaning::{FrontEnd, LentDrives, Link, Record};
+use meaning::{LentDrives, Link, Record};
 
 // The bytes of a sector, as a place in memory or image counts them.
 const SECTOR_BYTES: usize = drive::SECTOR_BYTES as usize;
@@ -49,10 +48,10 @@ fn copy_sectors(src: &[u8], from: usize, dst: &mut [u8], to: usize, n: usize)
     }
 }
 
-// The close of a 753's command: bytes 0 to 3 of its own IOPB, byte 0 from the copied one.
-fn close_753(memory: &mut [u8], l: LentDrives, r: Record)
+// The close: bytes 0 to 3 of the command's own IOPB, byte 0 from the copied one.
+fn close(memory: &mut [u8], l: LentDrives, r: Record)
     requires { r.iopb + 4 ≤ length memory.old }
-    ensures { memory.new ≡ sets memory.old r.iopb (step.closing753 (drives_of l) r) }
+    ensures { memory.new ≡ sets memory.old r.iopb (step.closing (drives_of l) r) }
 {
     let posted = closing::posted(l, r);
     let at = r.iopb as usize;
@@ -60,28 +59,6 @@ fn close_753(memory: &mut [u8], l: LentDrives, r: Record)
     memory[at + 1] = posted.code;
     memory[at + 2] = posted.drive;
     memory[at + 3] = posted.internal;
-}
-
-// The close of a 431's command: bytes 4 and 5 of its own IOPB.
-fn close_431(memory: &mut [u8], r: Record)
-    requires { r.iopb + 6 ≤ length memory.old }
-    ensures { memory.new ≡ sets memory.old (r.iopb + 4) (step.closing431 r) }
-{
-    let posted = closing::posted_431(r);
-    let at = r.iopb as usize;
-    memory[at + 4] = posted.byte4;
-    memory[at + 5] = posted.code;
-}
-
-// The close of a command, by its front end.
-fn close(memory: &mut [u8], l: LentDrives, r: Record)
-    requires { r.iopb + iopb_bytes_of (front_in r) ≤ length memory.old }
-    ensures { memory.new ≡ sets memory.old (status_at r) (step.closing (drives_of l) r) }
-{
-    match front::of_mark(r.front) {
-        FrontEnd::Xylogics753 => close_753(memory, l, r),
-        FrontEnd::Xylogics431 => close_431(memory, r),
-    }
 }
 
 // How many bytes of a range of this length come before byte v of the data, where its own first byte is byte b.
@@ -140,7 +117,7 @@ fn move_pieces(
     reading: bool,
     disk: usize,
     list: [Link; 32],
-    n: u8,
+    n: u16,
     lo: usize,
     hi: usize,
 )

@@ -12,8 +12,6 @@ use lib.ListN.{length, take, drop}
 use lib.Dec.{ltb, eqb}
 use borrow.Author.Tests.{eqb-true, eqb-false, eq-eqb, ne_eqb}
 use Rattle.meaning.specs.declared.Copied.{Copied}
-use Rattle.meaning.specs.declared.FrontEnd.TheVariants.{Xylogics753, Xylogics431}
-use Rattle.meaning.specs.Front.{front_of}
 use Rattle.meaning.specs.declared.Drive.{Drive}
 use Rattle.meaning.specs.declared.Link.{Link}
 use Rattle.meaning.specs.Walk.{record_of}
@@ -37,7 +35,7 @@ use Rattle.chain.specs.Records.{record_at, plain_record_of, plain_record_at}
 -- ---- rows, read in any column
 
 -- where the rows give a code, what comes after them has no say
-pub same_in : (column : Row → ℕ) (rows : List Row) (x y : ℕ) → first_of rows 0 ≢ 0 → first_in column rows x ≡ first_in column rows y
+same_in : (column : Row → ℕ) (rows : List Row) (x y : ℕ) → first_of rows 0 ≢ 0 → first_in column rows x ≡ first_in column rows y
 same_in column [] x y n = absurd (n refl)
 same_in column (r ∷ rows) x y n = go r.applies (same_in column rows x y) n
   where
@@ -243,7 +241,7 @@ pub record_made : (m : List ℕ) (c : Copied) (a : ℕ) (d : Drive) (early : Ver
     → list ≡ padded (links_at m c.address ranges)
     → sector ≡ first_sector d c
     → verdict ≡ late_verdict c early (length m) (take ranges list) ranges
-    → record { iopb = a; address = c.address; sector = sector; taken = 0; ranges = ranges; front = 0; count = c.count; unit = c.unit; byte0 = c.byte0; code = verdict.code; fitted = verdict.fitted; list = list }
+    → record { iopb = a; address = c.address; sector = sector; taken = 0; ranges = ranges; count = c.count; unit = c.unit; byte0 = c.byte0; code = verdict.code; fitted = verdict.fitted; list = list }
     ≡ record_of c a d m
 unfolding record_of
 record_made m c a d early ranges sector list verdict is-early is-ranges is-list is-sector is-verdict =
@@ -256,7 +254,7 @@ record_made m c a d early ranges sector list verdict is-early is-ranges is-list 
     ∙ ap₂ (λ (xs : List Link) (n : ℕ). late_verdict c (verdict_of (early_rows c d)) (length m) xs n) first many
     ∙ verdict_is m c d
     in
-    λ j. record { iopb = a; address = c.address; sector = is-sector j; taken = 0; ranges = ranges-is j; front = 0; count = c.count; unit = c.unit; byte0 = c.byte0; code = (is-rule j).code; fitted = (is-rule j).fitted; list = read j }
+    λ j. record { iopb = a; address = c.address; sector = is-sector j; taken = 0; ranges = ranges-is j; count = c.count; unit = c.unit; byte0 = c.byte0; code = (is-rule j).code; fitted = (is-rule j).fitted; list = read j }
 
 -- ---- a record with no list
 
@@ -267,21 +265,17 @@ pub plain_made : (m : List ℕ) (a : ℕ) (d : Drives) (c : Copied) (own : Drive
     → list ≡ no_links
     → sector ≡ first_sector own c
     → verdict ≡ late_verdict c early (length m) [] 0
-    → record { iopb = a; address = c.address; sector = sector; taken = 0; ranges = 0; front = 0; count = c.count; unit = c.unit; byte0 = c.byte0; code = verdict.code; fitted = verdict.fitted; list = list }
-    ≡ plain_record_at Xylogics753 m d a
+    → record { iopb = a; address = c.address; sector = sector; taken = 0; ranges = 0; count = c.count; unit = c.unit; byte0 = c.byte0; code = verdict.code; fitted = verdict.fitted; list = list }
+    ≡ plain_record_at m d a
 unfolding plain_record_of
 plain_made m a d c own early sector list verdict is-copied is-own is-early is-list is-sector is-verdict =
     let is-late : verdict ≡ late_verdict c (verdict_of (early_rows c own)) (length m) [] 0 = is-verdict ∙ ap (λ (e : Verdict). late_verdict c e (length m) [] 0) is-early in
-    (λ j. record { iopb = a; address = c.address; sector = is-sector j; taken = 0; ranges = 0; front = 0; count = c.count; unit = c.unit; byte0 = c.byte0; code = (is-late j).code; fitted = (is-late j).fitted; list = is-list j })
+    (λ j. record { iopb = a; address = c.address; sector = is-sector j; taken = 0; ranges = 0; count = c.count; unit = c.unit; byte0 = c.byte0; code = (is-late j).code; fitted = (is-late j).fitted; list = is-list j })
     ∙ ap (λ (o : Drive). plain_record_of c a o m) is-own
     ∙ ap (λ (x : Copied). plain_record_of x a (d.on x.unit) m) is-copied
 
 -- where SGM is clear, that is the record
-and_yes : (b : Bool) → (b && true) ≡ b
-and_yes true = refl
-and_yes false = refl
-
-plain_is : (m : List ℕ) (d : Drives) (a : ℕ) → eqb (sgm m a) 1 ≡ false → plain_record_at Xylogics753 m d a ≡ record_at Xylogics753 m d a
+pub plain_is : (m : List ℕ) (d : Drives) (a : ℕ) → eqb (sgm m a) 1 ≡ false → plain_record_at m d a ≡ record_at m d a
 unfolding plain_record_of copied_at links_at
 plain_is m d a g =
     let c = copied_at m a in
@@ -289,12 +283,3 @@ plain_is m d a g =
     let early = verdict_of (early_rows c own) in
     record_made m c a own early 0 (first_sector own c) no_links (late_verdict c early (length m) [] 0)
     refl (sym (to_read_none c early.code (length m) g)) refl refl refl
-
--- of either front end; only a 753's IOPB has SGM, and the mark 1 is a 431's
-pub plain_of : (mark : ℕ) (m : List ℕ) (d : Drives) (a : ℕ) → (eqb (sgm m a) 1 && not (eqb mark 1)) ≡ false
-    → plain_record_at (front_of mark) m d a ≡ record_at (front_of mark) m d a
-plain_of mark m d a h = go (eqb mark 1) h
-  where
-    go : (b : Bool) → (eqb (sgm m a) 1 && not b) ≡ false → plain_record_at (cond b Xylogics431 Xylogics753) m d a ≡ record_at (cond b Xylogics431 Xylogics753) m d a
-    go true g = refl
-    go false g = plain_is m d a (sym (and_yes (eqb (sgm m a) 1)) ∙ g)

@@ -5,4 +5,3 @@ pub mod Past
 pub mod Alone
 pub mod Verdicts
 pub mod Coding
-pub mod Tested

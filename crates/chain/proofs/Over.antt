@@ -6,7 +6,6 @@ use native.Mathlib.Omega.{arith}
 use native.Mathlib.Numerals.{add-one}
 use mathlib.Core.List.{List, [], ◌∷◌, map}
 use lib.ListN.{length, set, get_or, length-append, length-take, length-drop, length-map, get_or-map}
-use Rattle.meaning.specs.declared.FrontEnd.{FrontEnd}
 use Rattle.meaning.specs.Drives.{Drives}
 use Rattle.meaning.specs.declared.Record.{Record}
 use Rattle.chain.specs.Records.{over, record_at, filled_at}
@@ -27,13 +26,13 @@ length_over n of to h g = simp (length-append, length-take, length-drop) (omega 
 
 -- ---- the records of IOPBs
 
-module _ (f : FrontEnd) (m : List ℕ) (d : Drives) (addresses : List ℕ) (t : List Record) where
-  long : length (map (record_at f m d) addresses) ≡ length addresses
-  long = length-map addresses (record_at f m d)
+module _ (m : List ℕ) (d : Drives) (addresses : List ℕ) (t : List Record) where
+  long : length (map (record_at m d) addresses) ≡ length addresses
+  long = length-map addresses (record_at m d)
 
-  pub filled_next : (k : ℕ) → k < length addresses → k < length t → set (filled_at f m d k addresses t) k (record_at f m d (get_or addresses k 0)) ≡ filled_at f m d (k + 1) addresses t
+  pub filled_next : (k : ℕ) → k < length addresses → k < length t → set (filled_at m d k addresses t) k (record_at m d (get_or addresses k 0)) ≡ filled_at m d (k + 1) addresses t
   filled_next k h g =
-      rw (← get_or-map (record_at f m d) addresses k 0) (over_next (record_at f m d 0) k (map (record_at f m d) addresses) t (omega (arith, long)) g)
+      rw (← get_or-map (record_at m d) addresses k 0) (over_next (record_at m d 0) k (map (record_at m d) addresses) t (omega (arith, long)) g)
 
-  pub length_filled : (n : ℕ) → n ≤ length addresses → n ≤ length t → length (filled_at f m d n addresses t) ≡ length t
-  length_filled n h g = length_over n (map (record_at f m d) addresses) t (omega (arith, long)) g
+  pub length_filled : (n : ℕ) → n ≤ length addresses → n ≤ length t → length (filled_at m d n addresses t) ≡ length t
+  length_filled n h g = length_over n (map (record_at m d) addresses) t (omega (arith, long)) g

@@ -5,15 +5,13 @@ use Rattle.meaning.specs.Store.{lent}
 use Rattle.meaning.specs.State.{most_commands}
 use Rattle.meaning.specs.Sizes.{store_wrong}
 use Rattle.meaning.specs.Code.{odd}
-use Rattle.meaning.specs.Walk.{Entry, first_at, Chain, refused, accepted, follow, answered}
+use Rattle.meaning.specs.Walk.{Chain, refused, accepted, follow, answered}
 use Rattle.chain.specs.declared.walk.Found.{Found}
 
 -- the chain that a walk comes to whose table has so many records; m is memory and is the images
-unfoldable pub chain_for : Drives → Entry → ℕ → List ℕ → List (List ℕ) → Chain
+unfoldable pub chain_for : Drives → ℕ → ℕ → List ℕ → List (List ℕ) → Chain
 unfolding store_wrong follow
-chain_for d e records m is =
-    cond (store_wrong d (lent m is) || ltb records most_commands) (refused 1)
-    (cond (odd (first_at e)) (refused 2) (follow most_commands e.front e.relocation m d [] (first_at e)))
+chain_for d start records m is = cond (store_wrong d (lent m is) || ltb records most_commands) (refused 1) (cond (odd start) (refused 2) (follow most_commands m d [] start))
 
 -- where the IOPBs of its commands are
 abbrev pub iopbs_of : Chain → List ℕ

@@ -6,20 +6,12 @@ use Rattle.meaning.specs.declared.Record.{Record}
 use Rattle.meaning.specs.Drives.{Drives}
 use Rattle.meaning.specs.Links.{no_links}
 use Rattle.meaning.specs.Code.{copied_at, first_sector}
-use Rattle.meaning.specs.declared.FrontEnd.{FrontEnd}
-use Rattle.meaning.specs.declared.FrontEnd.TheVariants.{Xylogics753, Xylogics431}
-use Rattle.meaning.specs.Front.{mark_of}
-use Rattle.meaning.specs.Walk.{made_by}
-use Rattle.chain.specs.declared.walk.Next.{Next}
+use Rattle.meaning.specs.Walk.{record_of}
 use Rattle.chain.specs.Coding.{verdict_of, early_rows, late_verdict}
 
--- the record of the IOPB at an address, by the drive of its own unit; the chain's relocation word has no say in it (proofs/Found)
-abbrev pub record_at : FrontEnd → List ℕ → Drives → ℕ → Record
-record_at f m d a = (made_by f 0 m d a).record_made
-
--- whether another IOPB follows, and where
-abbrev pub next_at : FrontEnd → ℕ → List ℕ → Drives → ℕ → Next
-next_at f relocation m d a = record { follows = (made_by f relocation m d a).follows; at = (made_by f relocation m d a).next }
+-- the record of the IOPB at an address, by the drive of its own unit
+abbrev pub record_at : List ℕ → Drives → ℕ → Record
+record_at m d a = record_of (copied_at m a) a (d.on (copied_at m a).unit) m
 
 -- a command's record with no list; d is the drive of its own unit
 unfoldable pub plain_record_of : Copied → ℕ → Drive → List ℕ → Record
@@ -32,7 +24,6 @@ plain_record_of c a d m =
       sector = first_sector d c;
       taken = 0;
       ranges = 0;
-      front = mark_of Xylogics753;
       count = c.count;
       unit = c.unit;
       byte0 = c.byte0;
@@ -41,15 +32,14 @@ plain_record_of c a d m =
       list = no_links;
     }
 
--- that of the IOPB at an address; a 431's has none in any case
-abbrev pub plain_record_at : FrontEnd → List ℕ → Drives → ℕ → Record
-plain_record_at Xylogics753 m d a = plain_record_of (copied_at m a) a (d.on (copied_at m a).unit) m
-plain_record_at Xylogics431 m d a = record_at Xylogics431 m d a
+-- that of the IOPB at an address
+abbrev pub plain_record_at : List ℕ → Drives → ℕ → Record
+plain_record_at m d a = plain_record_of (copied_at m a) a (d.on (copied_at m a).unit) m
 
 -- the first n records of one table over those of another
 abbrev pub over : ℕ → List Record → List Record → List Record
 over n of to = take n of ++ drop n to
 
 -- a table over whose first n records those of the IOPBs at the first n of these addresses are laid
-abbrev pub filled_at : FrontEnd → List ℕ → Drives → ℕ → List ℕ → List Record → List Record
-filled_at f m d n addresses t = over n (map (record_at f m d) addresses) t
+abbrev pub filled_at : List ℕ → Drives → ℕ → List ℕ → List Record → List Record
+filled_at m d n addresses t = over n (map (record_at m d) addresses) t

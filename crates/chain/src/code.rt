@@ -123,7 +123,7 @@ fn forbidden(c: Copied, d: Drive) -> bool
 }
 
 // The test for the end of memory: of the 512 x count bytes from the data address on.
-pub(crate) fn memory_end(c: Copied, memory: u64) -> End
+fn memory_end(c: Copied, memory: u64) -> End
     ensures { result ≡ memory_end memory (bytes c.address (sector_bytes * c.count)) }
 {
     let many = drive::SECTOR_BYTES as u32 * c.count as u32;
@@ -131,7 +131,7 @@ pub(crate) fn memory_end(c: Copied, memory: u64) -> End
 }
 
 // What is fixed of a transfer, before its data is looked at. `first` is the number of its first sector.
-pub(crate) fn transfer_verdict(c: Copied, d: Drive, first: u32) -> Verdict
+fn transfer_verdict(c: Copied, d: Drive, first: u32) -> Verdict
     requires { first ≡ first_sector d c }
     ensures { result ≡ verdict_of (transfer_rows c d) }
 {
@@ -179,16 +179,16 @@ pub(crate) fn early_verdict(c: Copied, d: Drive, first: u32) -> Verdict
 }
 
 // How many elements the link list has: bits 7-3 of byte 6, where 0 means 32.
-fn link_count(c: Copied) -> u8
+fn link_count(c: Copied) -> u16
     ensures { result ≡ link_count c }
 {
     let n = c.byte6 / 8 % 32;
-    if n == 0 { links::MOST_LINKS } else { n }
+    if n == 0 { links::MOST_LINKS } else { n as u16 }
 }
 
 // How many elements the walk reads of a command with this code so far: none where it has a code already, or no list, or one that is not
 // all in a memory of so many bytes.
-pub(crate) fn links_to_read(c: Copied, early: u8, memory: u64) -> u8
+pub(crate) fn links_to_read(c: Copied, early: u8, memory: u64) -> u16
     ensures { result ≡ to_read c early memory }
 {
     if early != 0 {
@@ -223,7 +223,7 @@ fn plain_verdict(c: Copied, memory: u64) -> Verdict
 }
 
 // The code of a transfer by the first n ranges of its list, which was read.
-fn list_code(count: u16, memory: u64, list: [Link; 32], n: u8) -> u8
+fn list_code(count: u16, memory: u64, list: [Link; 32], n: u16) -> u8
     ensures { result ≡ list_code count memory (take n list) }
 {
     if links::bytes_in(list, n) != drive::SECTOR_BYTES as u32 * count as u32 {
@@ -245,7 +245,7 @@ pub(crate) fn final_verdict(
     early: Verdict,
     memory: u64,
     list: [Link; 32],
-    n: u8,
+    n: u16,
 ) -> Verdict
     ensures { result ≡ late_verdict c early memory (take n list) n }
 {

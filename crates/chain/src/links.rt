@@ -8,7 +8,7 @@ ghost use Rattle.meaning.specs.Code as code;
 use meaning::Link;
 
 // The most ranges that a record can hold.
-pub const MOST_LINKS: u8 = 32;
+pub const MOST_LINKS: u16 = 32;
 
 // The bytes of an element.
 pub const LINK_BYTES: usize = 8;
@@ -26,7 +26,7 @@ pub fn no_links() -> [Link; 32]
 }
 
 // How many ranges a number can mean: a list holds 32 and no more.
-pub fn held(n: u8) -> usize
+pub fn held(n: u16) -> usize
     ensures { result ≡ min n 32 }
 {
     if n < MOST_LINKS {
@@ -109,7 +109,7 @@ fn length_of(x: Link) -> u32
 }
 
 // Some of the first n ranges begin at an odd address.
-pub(crate) fn some_odd(list: [Link; 32], n: u8) -> bool
+pub(crate) fn some_odd(list: [Link; 32], n: u16) -> bool
     ensures { result ≡ some_of (λ x. code.odd x.address) (take n list) }
 {
     let last = held(n);
@@ -124,7 +124,7 @@ pub(crate) fn some_odd(list: [Link; 32], n: u8) -> bool
 }
 
 // Some of the first n ranges end past the end of memory.
-pub(crate) fn some_outside(list: [Link; 32], n: u8, memory: u64) -> bool
+pub(crate) fn some_outside(list: [Link; 32], n: u16, memory: u64) -> bool
     ensures { result ≡ some_of (λ x. code.outside memory (range_of x)) (take n list) }
 {
     let last = held(n);
@@ -139,7 +139,7 @@ pub(crate) fn some_outside(list: [Link; 32], n: u8, memory: u64) -> bool
 }
 
 // How many bytes the first n ranges have together.
-pub(crate) fn bytes_in(list: [Link; 32], n: u8) -> u32
+pub(crate) fn bytes_in(list: [Link; 32], n: u16) -> u32
     ensures { result ≡ sum_of (λ x. x.length) (take n list) }
 {
     let last = held(n);

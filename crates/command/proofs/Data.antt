@@ -15,7 +15,7 @@ use Rattle.meaning.specs.declared.Record.{Record}
 use Rattle.meaning.specs.Store.{Store, memory}
 use Rattle.meaning.specs.Sizes.{store_wrong}
 use Rattle.meaning.specs.Each.{some_of}
-use Rattle.meaning.specs.Front.{front_in, iopb_bytes_of}
+use Rattle.meaning.specs.Fields.{iopb_bytes}
 use Rattle.meaning.specs.Sectors.{sector_bytes}
 use Rattle.meaning.specs.Ends.{drive_end}
 use Rattle.meaning.specs.Ranges.{Range}
@@ -147,8 +147,8 @@ module _ (d : Drives) (s : Store) (right : store_wrong d s ≡ false) (r : Recor
   pub bad_in_lem : bad_record d s r ≡ bad_in n d r
   unfolding bad_record bad_by bad_in
   bad_in_lem =
-      ap₂ (λ (a b : Bool). (a || ltb (steps_of r) r.taken) || b) (not-leb (r.iopb + iopb_bytes_of (front_in r)) n) (if_moves (transfers r) refl)
-      ∙ or_assoc (ltb n (r.iopb + iopb_bytes_of (front_in r))) (ltb (steps_of r) r.taken) (transfers r && bad_move n (room_in own) r)
+      ap₂ (λ (a b : Bool). (a || ltb (steps_of r) r.taken) || b) (not-leb (r.iopb + iopb_bytes) n) (if_moves (transfers r) refl)
+      ∙ or_assoc (ltb n (r.iopb + iopb_bytes)) (ltb (steps_of r) r.taken) (transfers r && bad_move n (room_in own) r)
 
 -- a record is judged by the room of its own unit as by the drives
 pub by_own_room : (n : ℕ) (d : Drives) (r : Record) (m : Room) → m ≡ room_in (d.on r.unit) → bad_by n m r ≡ bad_in n d r

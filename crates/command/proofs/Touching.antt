@@ -14,7 +14,6 @@ use Rattle.meaning.specs.Each.{some_of}
 use Rattle.meaning.specs.Store.{disk, same}
 use Rattle.meaning.specs.Ranges.{Range, bytes, sectors_of, crosses, overlap, meet}
 use Rattle.meaning.specs.Command.{reads, writes, transfers}
-use Rattle.meaning.specs.Front.{front_in, status_many, status_at}
 use Rattle.meaning.specs.Touch.{Touched, data_bytes, status_bytes, sectors, touched_by, touched, disturbs, conflict}
 use Rattle.meaning.proofs.All.{All, all_both}
 use Rattle.meaning.proofs.Rows.{and-true, or_second, or-false, or_none}
@@ -25,10 +24,6 @@ use Rattle.meaning.proofs.Ranges.{overlap_swap, meet_swap}
 use Rattle.meaning.proofs.Pieces.{OfMemory, data_memory}
 use Rattle.command.specs.declared.touch.Hull.{Hull}
 use Rattle.command.specs.Footprints.{nearer, hull_with, hull_from, hull_of, moved_data, footprint_of, hulls_meet, status_meets, data_meets, sectors_meet, footprints_meet, data_conflicts, sectors_conflict}
-
--- how many status bytes a command has
-abbrev many : Record → ℕ
-many r = status_many (front_in r)
 
 -- ---- ranges against what a command touches
 
@@ -45,7 +40,7 @@ module _ (a n : ℕ) (s : Record) where
   data_met = some_of (overlap (bytes a n)) (data_bytes s)
 
   abbrev status_met : Bool
-  status_met = crosses a n (status_at s) (many s)
+  status_met = crosses a n s.iopb 4
 
   bytes_by : (rd wr : Bool) → meets (bytes a n) (touched_by rd wr s) ≡ cond (rd || wr) (data_met || status_met) status_met
   bytes_by true wr = some_append (overlap (bytes a n)) (data_bytes s) (status_bytes s ∷ []) ∙ ap (λ (b : Bool). data_met || b) (or_no status_met)
@@ -88,15 +83,15 @@ module _ (r s : Record) where
   data_data = meet (data_bytes r) (data_bytes s)
 
   abbrev status_data : Bool
-  status_data = some_of (overlap (status_bytes r)) (data_bytes s)
+  status_data = some_of (overlap (bytes r.iopb 4)) (data_bytes s)
 
   abbrev sectors_sectors : Bool
   sectors_sectors = overlap (sectors r) (sectors s)
 
-status_swap : (r s : Record) → some_of (λ x. overlap x (status_bytes s)) (data_bytes r) ≡ status_data s r
+status_swap : (r s : Record) → some_of (λ x. overlap x (bytes s.iopb 4)) (data_bytes r) ≡ status_data s r
 status_swap r s =
-    some_same OfMemory (λ x. overlap x (status_bytes s)) (overlap (status_bytes s))
-    (λ x e. ap (λ (z : Range). overlap z (status_bytes s)) e ∙ crosses_swap x.from x.many (status_at s) (many s) ∙ sym (ap (overlap (status_bytes s)) e)) (data_bytes r) (data_memory r)
+    some_same OfMemory (λ x. overlap x (bytes s.iopb 4)) (overlap (bytes s.iopb 4))
+    (λ x e. ap (λ (z : Range). overlap z (bytes s.iopb 4)) e ∙ crosses_swap x.from x.many s.iopb 4 ∙ sym (ap (overlap (bytes s.iopb 4)) e)) (data_bytes r) (data_memory r)
 
 some_cond : {A : Type 0} (t : Bool) (f g : A → Bool) (xs : List A) → some_of (λ x. cond t (f x) (g x)) xs ≡ cond t (some_of f xs) (some_of g xs)
 some_cond true f g xs = refl
@@ -104,35 +99,35 @@ some_cond false f g xs = refl
 
 data_touches : (r s : Record) → some_of (λ x. meets x (touched s)) (data_bytes r) ≡ cond (transfers s) (data_data r s || status_data s r) (status_data s r)
 data_touches r s =
-    some_same OfMemory (λ x. meets x (touched s)) (λ x. cond (transfers s) (some_of (overlap x) (data_bytes s) || overlap x (status_bytes s)) (overlap x (status_bytes s)))
-    (λ x e. ap (λ (z : Range). meets z (touched s)) e ∙ bytes_of x.from x.many s ∙ sym (ap (λ (z : Range). cond (transfers s) (some_of (overlap z) (data_bytes s) || overlap z (status_bytes s)) (overlap z (status_bytes s))) e))
+    some_same OfMemory (λ x. meets x (touched s)) (λ x. cond (transfers s) (some_of (overlap x) (data_bytes s) || overlap x (bytes s.iopb 4)) (overlap x (bytes s.iopb 4)))
+    (λ x e. ap (λ (z : Range). meets z (touched s)) e ∙ bytes_of x.from x.many s ∙ sym (ap (λ (z : Range). cond (transfers s) (some_of (overlap z) (data_bytes s) || overlap z (bytes s.iopb 4)) (overlap z (bytes s.iopb 4))) e))
     (data_bytes r) (data_memory r)
-    ∙ some_cond (transfers s) (λ x. some_of (overlap x) (data_bytes s) || overlap x (status_bytes s)) (λ x. overlap x (status_bytes s)) (data_bytes r)
+    ∙ some_cond (transfers s) (λ x. some_of (overlap x) (data_bytes s) || overlap x (bytes s.iopb 4)) (λ x. overlap x (bytes s.iopb 4)) (data_bytes r)
     ∙ ap₂ (λ (x y : Bool). cond (transfers s) x y)
-    (some_or (λ x. some_of (overlap x) (data_bytes s)) (λ x. overlap x (status_bytes s)) (data_bytes r) ∙ ap (λ (b : Bool). data_data r s || b) (status_swap r s)) (status_swap r s)
+    (some_or (λ x. some_of (overlap x) (data_bytes s)) (λ x. overlap x (bytes s.iopb 4)) (data_bytes r) ∙ ap (λ (b : Bool). data_data r s || b) (status_swap r s)) (status_swap r s)
 
 -- by whether r reads and whether it writes: what its data, its status bytes and its sectors meet
 abbrev by_kind : Bool → Bool → Bool → Bool → Bool → Bool
 by_kind rd wr d st se = cond rd (d || st) (cond wr (se || st) st)
 
 disturbs_by : (r : Record) (y : Touched) (rd wr : Bool) → disturbs (touched_by rd wr r) y
-    ≡ by_kind rd wr (some_of (λ x. meets x y) (data_bytes r)) (meets (status_bytes r) y) (meets (sectors r) y)
+    ≡ by_kind rd wr (some_of (λ x. meets x y) (data_bytes r)) (meets (bytes r.iopb 4) y) (meets (sectors r) y)
 unfolding disturbs
 disturbs_by r y true wr =
-    some_append (λ x. meets x y) (data_bytes r) (status_bytes r ∷ []) ∙ ap (λ (b : Bool). some_of (λ x. meets x y) (data_bytes r) || b) (or_no (meets (status_bytes r) y))
-disturbs_by r y false true = ap (λ (b : Bool). meets (sectors r) y || b) (or_no (meets (status_bytes r) y))
-disturbs_by r y false false = or_no (meets (status_bytes r) y)
+    some_append (λ x. meets x y) (data_bytes r) (status_bytes r ∷ []) ∙ ap (λ (b : Bool). some_of (λ x. meets x y) (data_bytes r) || b) (or_no (meets (bytes r.iopb 4) y))
+disturbs_by r y false true = ap (λ (b : Bool). meets (sectors r) y || b) (or_no (meets (bytes r.iopb 4) y))
+disturbs_by r y false false = or_no (meets (bytes r.iopb 4) y)
 
 -- the five pairs, and the kinds of both
 abbrev one_way : Bool → Bool → Bool → Bool → Bool → Bool → Bool → Bool → Bool
 one_way rd wr other ss sd ds dd kk = by_kind rd wr (cond other (dd || ds) ds) (cond other (sd || ss) ss) (cond other kk false)
 
 disturbs_is : (r s : Record) → disturbs (touched r) (touched s)
-    ≡ one_way (reads r) (writes r) (transfers s) (crosses (status_at r) (many r) (status_at s) (many s)) (status_data r s) (status_data s r) (data_data r s) (sectors_sectors r s)
+    ≡ one_way (reads r) (writes r) (transfers s) (crosses r.iopb 4 s.iopb 4) (status_data r s) (status_data s r) (data_data r s) (sectors_sectors r s)
 unfolding touched
 disturbs_is r s =
     disturbs_by r (touched s) (reads r) (writes r)
-    ∙ (λ j. by_kind (reads r) (writes r) (data_touches r s j) (bytes_of (status_at r) (many r) s j) (sectors_of_lem r.unit r.sector r.count s j))
+    ∙ (λ j. by_kind (reads r) (writes r) (data_touches r s j) (bytes_of r.iopb 4 s j) (sectors_of_lem r.unit r.sector r.count s j))
 
 -- ---- a command that moves nothing
 
@@ -209,35 +204,35 @@ never_both r = is_false (means_and (means_reads r) (means_writes r)) (λ p. not_
 -- the five tests of the code
 module _ (r s : Record) where
   abbrev pub status_both : Bool
-  status_both = crosses (status_at r) (many r) (status_at s) (many s)
+  status_both = crosses r.iopb 4 s.iopb 4
 
   abbrev pub status_first : Bool
-  status_first = some_of (overlap (status_bytes r)) (moved_data s)
+  status_first = some_of (overlap (bytes r.iopb 4)) (moved_data s)
 
 unfoldable pub five : Record → Record → Bool
 five r s =
     status_both r s || (status_first r s || (status_first s r || (data_conflicts r s || sectors_conflict r s)))
 
 five_tested : (r s : Record) → five r s
-    ≡ tested (reads r) (writes r) (reads s) (writes s) (crosses (status_at r) (many r) (status_at s) (many s)) (status_data r s) (status_data s r) (data_data r s) (sectors_sectors r s)
+    ≡ tested (reads r) (writes r) (reads s) (writes s) (crosses r.iopb 4 s.iopb 4) (status_data r s) (status_data s r) (data_data r s) (sectors_sectors r s)
 unfolding five
 five_tested r s =
-    let sd = if_moved (some_of (overlap (status_bytes r))) (transfers s) (data_bytes s) [] refl in
-    let ds = if_moved (some_of (overlap (status_bytes s))) (transfers r) (data_bytes r) [] refl in
+    let sd = if_moved (some_of (overlap (bytes r.iopb 4))) (transfers s) (data_bytes s) [] refl in
+    let ds = if_moved (some_of (overlap (bytes s.iopb 4))) (transfers r) (data_bytes r) [] refl in
     let dd = both_moved meet [] meet_none (λ x. refl) (transfers r) (transfers s) (data_bytes r) (data_bytes s) in
     let kk = both_moved (λ (x y : ℕ). overlap (sectors_of r.unit r.sector x) (sectors_of s.unit s.sector y)) 0 (λ x. sectors_none r.unit r.sector x s.unit s.sector) (λ x. overlap_swap (sectors_of r.unit r.sector 0) (sectors_of s.unit s.sector x) ∙ sectors_none s.unit s.sector x r.unit r.sector) (transfers r) (transfers s) r.count s.count in
-    λ j. crosses (status_at r) (many r) (status_at s) (many s) || (sd j || (ds j || (((reads r || reads s) && dd j) || ((writes r || writes s) && kk j))))
+    λ j. crosses r.iopb 4 s.iopb 4 || (sd j || (ds j || (((reads r || reads s) && dd j) || ((writes r || writes s) && kk j))))
 
 pub conflict_is : (r s : Record) → conflict r s ≡ five r s
 unfolding conflict
 conflict_is r s =
-    let ss = crosses (status_at r) (many r) (status_at s) (many s) in
+    let ss = crosses r.iopb 4 s.iopb 4 in
     let sd = status_data r s in
     let ds = status_data s r in
     let dd = data_data r s in
     let kk = sectors_sectors r s in
     let back = disturbs_is s r
-    ∙ (λ j. one_way (reads s) (writes s) (transfers r) (crosses_swap (status_at s) (many s) (status_at r) (many r) j) ds sd (meet_swap (data_bytes s) (data_bytes r) j) (overlap_swap (sectors s) (sectors r) j))
+    ∙ (λ j. one_way (reads s) (writes s) (transfers r) (crosses_swap s.iopb 4 r.iopb 4 j) ds sd (meet_swap (data_bytes s) (data_bytes r) j) (overlap_swap (sectors s) (sectors r) j))
     in
     let tried = agree_at (reads r) (writes r) (reads s) (writes s) ss sd ds dd kk in
     let same = sym (or_second (reads s && writes s) _ (never_both s)) ∙ sym (or_second (reads r && writes r) _ (never_both r)) ∙ tried in
@@ -274,18 +269,6 @@ apart_some a n xs e m =
     some_no (λ x. OfMemory x × Under (hull_of xs) x) (overlap (bytes a n))
     (λ x h. ap (overlap (bytes a n)) h.0 ∙ apart_from a n (hull_of xs) x e h.1) xs (all_both OfMemory (Under (hull_of xs)) xs m (all_under _ xs))
 
--- the same of bytes that were begun no further than `far` before
-nearer_twice : (a : ℕ) → nearer (nearer a) ≡ nearer a
-nearer_twice a = omega arith
-
-apart_near : (a n : ℕ) (xs : List Range) → ltb (max (nearer (nearer a)) (hull_of xs).low) (min (nearer (nearer a) + n) (hull_of xs).high) ≡ false → All OfMemory xs → some_of (overlap (bytes a n)) xs ≡ false
-apart_near a n xs e m = apart_some a n xs (rw (nearer_twice a) at e) m
-
--- bytes apart so are apart
-apart_begun : (a n b k : ℕ) → crosses (nearer a) n (nearer b) k ≡ false → crosses a n b k ≡ false
-unfolding crosses
-apart_begun a n b k e = le-ltb (max a b) (min (a + n) (b + k)) (omega (arith, ltb-false (max (nearer a) (nearer b)) (min (nearer a + n) (nearer b + k)) e))
-
 -- two hulls apart: no range of the one crosses one of the other
 apart_both : (xs ys : List Range) → hulls_meet (hull_of xs) (hull_of ys) ≡ false → All OfMemory xs → All OfMemory ys → meet xs ys ≡ false
 apart_both xs ys e mx my =
@@ -313,14 +296,14 @@ module _ (r s : Record) (apart : footprints_meet (footprint_of r) (footprint_of 
       let f = footprint_of r in
       let g = footprint_of s in
       let last = data_meets f g || sectors_meet f g in
-      let a = or-false (crosses (nearer (status_at r)) (many r) (nearer (status_at s)) (many s)) (status_meets f g || (status_meets g f || last)) apart in
+      let a = or-false (status_both r s) (status_meets f g || (status_meets g f || last)) apart in
       let b = or-false (status_meets f g) (status_meets g f || last) a.1 in
       let c = or-false (status_meets g f) last b.1 in
       let e = or-false (data_meets f g) (sectors_meet f g) c.1 in
-      let sd = apart_near (status_at r) (many r) (moved_data s) b.0 (moved_memory s) in
-      let ds = apart_near (status_at s) (many s) (moved_data r) c.0 (moved_memory r) in
+      let sd = apart_some r.iopb 4 (moved_data s) b.0 (moved_memory s) in
+      let ds = apart_some s.iopb 4 (moved_data r) c.0 (moved_memory r) in
       let dd : data_conflicts r s ≡ false = under (reads r || reads s) (hulls_meet f.hull g.hull) (meet (moved_data r) (moved_data s)) (λ h. apart_both (moved_data r) (moved_data s) h (moved_memory r) (moved_memory s)) e.0 in
-      conflict_is r s ∙ or_none _ _ (apart_begun (status_at r) (many r) (status_at s) (many s) a.0) (or_none _ _ sd (or_none _ _ ds (or_none _ _ dd e.1)))
+      conflict_is r s ∙ or_none _ _ a.0 (or_none _ _ sd (or_none _ _ ds (or_none _ _ dd e.1)))
     where
       under : (a b c : Bool) → (b ≡ false → c ≡ false) → (a && b) ≡ false → (a && c) ≡ false
       under true b c f h = f h

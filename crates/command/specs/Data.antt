@@ -3,7 +3,7 @@
 use Rattle.std.specs.Prelude.{ℕ, ◌+◌, ◌*◌, Bool, not, ◌&&◌, ◌||◌, ltb, eqb}
 use Rattle.meaning.specs.Drives.{Drives}
 use Rattle.meaning.specs.declared.Record.{Record}
-use Rattle.meaning.specs.Front.{front_in, iopb_bytes_of}
+use Rattle.meaning.specs.Fields.{iopb_bytes}
 use Rattle.meaning.specs.Sectors.{sector_bytes}
 use Rattle.meaning.specs.Links.{most_links}
 use Rattle.meaning.specs.Command.{writes, transfers, steps_of}
@@ -24,7 +24,7 @@ bad_move n m r =
 -- of any record, by the room of its own unit
 unfoldable pub bad_by : ℕ → Room → Record → Bool
 unfolding bad_move steps_of
-bad_by n m r = ltb n (r.iopb + iopb_bytes_of (front_in r)) || (ltb (steps_of r) r.taken || transfers r && bad_move n m r)
+bad_by n m r = ltb n (r.iopb + iopb_bytes) || (ltb (steps_of r) r.taken || transfers r && bad_move n m r)
 
 -- of any record, by the drives
 unfoldable pub bad_in : ℕ → Drives → Record → Bool

@@ -4,7 +4,6 @@ use Rattle.std.specs.Prelude.{ℕ, ◌+◌, max, min, Bool, false, ◌&&◌, ◌
 use Rattle.meaning.specs.declared.Record.{Record}
 use Rattle.meaning.specs.Ranges.{Range, sectors_of, crosses, overlap, meet}
 use Rattle.meaning.specs.Command.{reads, writes, transfers, steps_of}
-use Rattle.meaning.specs.Front.{front_in, status_many, status_at}
 use Rattle.meaning.specs.Touch.{data_bytes}
 use Rattle.command.specs.declared.touch.Hull.{Hull}
 use Rattle.command.specs.declared.touch.Footprint.{Footprint}
@@ -65,7 +64,6 @@ no_footprint =
       sectors = 0;
       steps = 0;
       unit = 0;
-      status_many = 0;
       reads = false;
       writes = false;
     }
@@ -75,12 +73,11 @@ unfolding steps_of
 footprint_of r =
     record {
       hull = data_hull r;
-      status = nearer (status_at r);
+      status = r.iopb;
       sector = r.sector;
       sectors = moved_by r;
       steps = steps_of r;
       unit = r.unit;
-      status_many = status_many (front_in r);
       reads = reads r;
       writes = writes r;
     }
@@ -92,7 +89,7 @@ hulls_meet g h = ltb (max g.low h.low) (min g.high h.high)
 
 -- the status bytes of the one and the data of the other
 abbrev pub status_meets : Footprint → Footprint → Bool
-status_meets f g = ltb (max (nearer f.status) g.hull.low) (min (nearer f.status + f.status_many) g.hull.high)
+status_meets f g = ltb (max (nearer f.status) g.hull.low) (min (nearer f.status + 4) g.hull.high)
 
 -- data in common, where one of the two reads; sectors in common, where one of them writes
 abbrev pub data_meets : Footprint → Footprint → Bool
@@ -103,7 +100,7 @@ sectors_meet f g = (f.writes || g.writes) && overlap (sectors_of f.unit f.sector
 
 unfoldable pub footprints_meet : Footprint → Footprint → Bool
 footprints_meet f g =
-    crosses f.status f.status_many g.status g.status_many || (status_meets f g || (status_meets g f || (data_meets f g || sectors_meet f g)))
+    crosses f.status 4 g.status 4 || (status_meets f g || (status_meets g f || (data_meets f g || sectors_meet f g)))
 
 -- ---- the ranges themselves
 

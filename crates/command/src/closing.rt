@@ -1,5 +1,5 @@
-// The status bytes that a close posts: of a 753, by the copied byte 0, the code, what would have fitted and the drive of the command's own
-// unit (Step 5 to 9); of a 431, by the code alone (Multibus 17 and 18).
+// The status bytes that a close posts, by the copied byte 0, the code, what would have fitted and the drive of the command's own unit (Step
+// 5 to 9).
 ghost use Rattle.std.specs.Prelude.{◌≡◌, [], ◌∷◌};
 ghost use Rattle.meaning.specs.Drives.{drives_of};
 ghost use Rattle.meaning.specs.Step as step;
@@ -37,31 +37,14 @@ fn internal_status(r: Record) -> u8
     r.fitted
 }
 
-// What the close of a 753's command posts.
+// What the close of a command posts.
 pub fn posted(l: LentDrives, r: Record) -> Status
-    ensures { (result.byte0 ∷ result.code ∷ result.drive ∷ result.internal ∷ []) ≡ step.closing753 (drives_of l) r }
+    ensures { (result.byte0 ∷ result.code ∷ result.drive ∷ result.internal ∷ []) ≡ step.closing (drives_of l) r }
 {
     Status {
         byte0: closing_byte0(r),
         code: r.code,
         drive: drive_status(units::drive_of(l, r.unit)),
         internal: internal_status(r),
-    }
-}
-
-// Bytes 4 and 5 of a 431's IOPB after its command's close.
-#[derive(Drop)]
-pub struct Status431 {
-    pub byte4: u8,
-    pub code: u8,
-}
-
-// What the close of a 431's command posts: DONE and the controller type, and ERSM exactly if the code is not 00; then the code.
-pub fn posted_431(r: Record) -> Status431
-    ensures { (result.byte4 ∷ result.code ∷ []) ≡ step.closing431 r }
-{
-    Status431 {
-        byte4: if r.code == 0 { 0x0B } else { 0x8B },
-        code: r.code,
     }
 }

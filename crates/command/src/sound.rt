@@ -1,7 +1,6 @@
 // Whether a record may stand in a table in use: number 9 is given for one that may not (Spoiled 2 to 7 and 9 to 11). What is asked of a
 // command's data is told by its hull, so that a list is gone through once. `memory` is how many bytes memory has.
-ghost use Rattle.std.specs.Prelude.{◌≡◌, true, ◌+◌};
-ghost use Rattle.meaning.specs.Front.{front_in, iopb_bytes_of};
+ghost use Rattle.std.specs.Prelude.{◌≡◌, true};
 ghost use Rattle.meaning.specs.Command.{transfers};
 ghost use Rattle.units.specs.Rooms.{room_of};
 ghost use Rattle.command.specs.Data.{bad_data, bad_move, bad_by};
@@ -10,7 +9,7 @@ ghost use Rattle.command.specs.Look.{may_block, judged_as, looked_as};
 
 use crate::touch;
 use crate::touch::{Footprint, Hull};
-use chain::{front, links};
+use chain::links;
 use meaning::Record;
 use units::rooms;
 use units::rooms::{Room, Rooms};
@@ -54,19 +53,12 @@ fn bad_transfer(memory: u64, room: Room, r: Record, h: Hull) -> bool
     false
 }
 
-// Where the IOPB of a command ends: how long it is goes by its front end.
-fn iopb_end(r: Record) -> u64
-    ensures { result ≡ r.iopb + iopb_bytes_of (front_in r) }
-{
-    r.iopb as u64 + front::iopb_bytes(front::of_mark(r.front)) as u64
-}
-
 // A record that no table in use may hold, by the room of its own unit and the hull of its data. Its kind is asked once, before its steps.
 fn bad_by(memory: u64, room: Room, r: Record, h: Hull) -> bool
     requires { h ≡ data_hull r }
     ensures { result ≡ bad_by memory room r }
 {
-    if memory < iopb_end(r) {
+    if memory < r.iopb as u64 + iopb::IOPB_BYTES as u64 {
         return true;
     }
     if crate::transfers(r) {

@@ -6,12 +6,14 @@ ghost use Rattle.meaning.specs.Each.{some_of};
 ghost use Rattle.meaning.specs.Sectors.{sector_bytes};
 ghost use Rattle.meaning.specs.Ranges.{bytes, sectors_of, overlap, meet};
 ghost use Rattle.meaning.specs.Links.{range_of};
-ghost use Rattle.meaning.specs.Front.{front_in, status_many, status_at};
 ghost use Rattle.meaning.specs.Touch as touch;
 ghost use Rattle.command.specs.Footprints.{nearer, most_bytes, most_added, hull_with, hull_of, moved_by, moved_data, data_hull, no_footprint, footprint_of, hulls_meet, status_meets, data_meets, sectors_meet, footprints_meet, data_conflicts, sectors_conflict};
 
-use chain::{front, links, ranges};
+use chain::{links, ranges};
 use meaning::{Link, Record};
+
+// A close writes the first four bytes of its IOPB (Step 5).
+const STATUS_BYTES: u32 = 4;
 
 // What begins past this is taken to begin here, which is far outside memory, so that every end of a range fits into 32 bits: of such
 // numbers the compiler looks at several at a time.
@@ -31,7 +33,7 @@ pub struct Hull {
 pub struct Footprint {
     // of its data
     pub hull: Hull,
-    // where its status bytes begin, as a hull counts it
+    // where its status bytes begin
     pub status: u32,
     // its sectors: the first one, and how many
     pub sector: u32,
@@ -39,8 +41,6 @@ pub struct Footprint {
     pub steps: u32,
     // the unit that they are of
     pub unit: u8,
-    // how many its status bytes are
-    pub status_many: u8,
     // whether it reads sectors, or writes them
     pub reads: bool,
     pub writes: bool,
@@ -93,7 +93,6 @@ pub fn no_footprint() -> Footprint
         sectors: 0,
         steps: 0,
         unit: 0,
-        status_many: 0,
         reads: false,
         writes: false,
     }
@@ -122,7 +121,7 @@ fn hull_with_link(h: Hull, x: Link) -> Hull
 }
 
 // The hull of the first n ranges of a list.
-fn list_hull(list: [Link; 32], n: u8) -> Hull
+fn list_hull(list: [Link; 32], n: u16) -> Hull
     ensures { result ≡ hull_of (map range_of (take n list)) }
 {
     let last = links::held(n);
@@ -167,29 +166,6 @@ fn moved(r: Record) -> u32
     }
 }
 
-// Where the status bytes of a command begin: which bytes of its IOPB these are goes by its front end.
-fn status_at(r: Record) -> u64
-    ensures value { result ≡ status_at r }
-    ensures within { result ≤ 4_294_967_299 }
-{
-    r.iopb as u64 + front::status_from(front::of_mark(r.front)) as u64
-}
-
-// How many status bytes a command has.
-fn status_many(r: Record) -> u8
-    ensures { result ≡ status_many (front_in r) }
-{
-    front::status_bytes(front::of_mark(r.front))
-}
-
-// Where its status bytes begin, as a hull counts it.
-fn status_begins(r: Record) -> u32
-    ensures { result ≡ nearer (status_at r) }
-{
-    let at = status_at(r);
-    if at < FAR as u64 { at as u32 } else { FAR }
-}
-
 // The footprint of a command, by the hull of its data.
 pub(crate) fn footprint_with(r: Record, hull: Hull) -> Footprint
     requires { hull ≡ data_hull r }
@@ -197,12 +173,11 @@ pub(crate) fn footprint_with(r: Record, hull: Hull) -> Footprint
 {
     Footprint {
         hull,
-        status: status_begins(r),
+        status: r.iopb,
         sector: r.sector,
         sectors: moved(r),
         steps: crate::steps_of(r),
         unit: r.unit,
-        status_many: status_many(r),
         reads: crate::reads(r),
         writes: crate::writes(r),
     }
@@ -227,11 +202,10 @@ fn status_meets(f: Footprint, g: Footprint) -> bool
     ensures { result ≡ status_meets f g }
 {
     let from = begins(f.status);
-    let to = from + f.status_many as u32;
-    if to <= g.hull.low {
+    if from + STATUS_BYTES <= g.hull.low {
         return false;
     }
-    larger(from, g.hull.low) < smaller(to, g.hull.high)
+    larger(from, g.hull.low) < smaller(from + STATUS_BYTES, g.hull.high)
 }
 
 // n sectors of a unit from a on have one in common with m sectors of another unit, or the same, from b on. Sectors of different units never
@@ -269,12 +243,7 @@ fn data_meets(f: Footprint, g: Footprint) -> bool
 pub fn footprints_meet(f: Footprint, g: Footprint) -> bool
     ensures { result ≡ footprints_meet f g }
 {
-    if ranges::crosses(
-        f.status,
-        f.status_many as u32,
-        g.status,
-        g.status_many as u32,
-    ) {
+    if ranges::crosses(f.status, STATUS_BYTES, g.status, STATUS_BYTES) {
         return true;
     }
     if status_meets(f, g) {
@@ -289,25 +258,15 @@ pub fn footprints_meet(f: Footprint, g: Footprint) -> bool
     sectors_meet(f, g)
 }
 
-// n bytes from a on have one in common with m bytes from b on. An address has 32 bits, and status bytes begin four bytes after it at most.
-fn bytes_cross(a: u64, n: u32, b: u64, m: u32) -> bool
-    requires { (a ≤ 4_294_967_299) × (b ≤ 4_294_967_299) }
-    ensures { result ≡ overlap (bytes a n) (bytes b m) }
-{
-    ranges::common(a, a + n as u64, b, b + m as u64)
-}
-
 // n bytes from a on have one in common with the range of an element.
-fn link_meets(x: Link, a: u64, n: u32) -> bool
-    requires { a ≤ 4_294_967_299 }
+fn link_meets(x: Link, a: u32, n: u32) -> bool
     ensures { result ≡ overlap (bytes a n) (range_of x) }
 {
-    bytes_cross(a, n, x.address as u64, x.length as u32)
+    ranges::crosses(a, n, x.address, x.length as u32)
 }
 
 // n bytes from a on have one in common with some of the first m ranges of a list.
-fn list_meets(list: [Link; 32], m: u8, a: u64, n: u32) -> bool
-    requires { a ≤ 4_294_967_299 }
+fn list_meets(list: [Link; 32], m: u16, a: u32, n: u32) -> bool
     ensures { result ≡ some_of (λ x. overlap (bytes a n) (range_of x)) (take m list) }
 {
     let last = links::held(m);
@@ -322,15 +281,14 @@ fn list_meets(list: [Link; 32], m: u8, a: u64, n: u32) -> bool
 }
 
 // n bytes from a on have one in common with the data of a command.
-fn meets_data(r: Record, a: u64, n: u32) -> bool
-    requires { a ≤ 4_294_967_299 }
+fn meets_data(r: Record, a: u32, n: u32) -> bool
     ensures { result ≡ some_of (overlap (bytes a n)) (moved_data r) }
 {
     if !crate::transfers(r) {
         return false;
     }
     if r.ranges == 0 {
-        return bytes_cross(a, n, r.address as u64, plain_bytes(r));
+        return ranges::crosses(a, n, r.address, plain_bytes(r));
     }
     let list = r.list;
     list_meets(list, r.ranges, a, n)
@@ -340,11 +298,11 @@ fn meets_data(r: Record, a: u64, n: u32) -> bool
 fn link_meets_data(r: Record, x: Link) -> bool
     ensures { result ≡ some_of (overlap (range_of x)) (moved_data r) }
 {
-    meets_data(r, x.address as u64, x.length as u32)
+    meets_data(r, x.address, x.length as u32)
 }
 
 // Some of the first n ranges of a list have a byte in common with the data of a command.
-fn list_meets_data(list: [Link; 32], n: u8, r: Record) -> bool
+fn list_meets_data(list: [Link; 32], n: u16, r: Record) -> bool
     ensures { result ≡ some_of (λ x. some_of (overlap (range_of x)) (moved_data r)) (take n list) }
 {
     let last = links::held(n);
@@ -366,7 +324,7 @@ fn data_shared(r: Record, s: Record) -> bool
         return false;
     }
     if r.ranges == 0 {
-        return meets_data(s, r.address as u64, plain_bytes(r));
+        return meets_data(s, r.address, plain_bytes(r));
     }
     let list = r.list;
     list_meets_data(list, r.ranges, s)
@@ -392,36 +350,17 @@ fn sectors_conflict(r: Record, s: Record) -> bool
     false
 }
 
-// The status bytes of two commands have one in common.
-fn status_crosses(r: Record, s: Record) -> bool
-    ensures { result ≡ overlap (touch.status_bytes r) (touch.status_bytes s) }
-{
-    bytes_cross(
-        status_at(r),
-        status_many(r) as u32,
-        status_at(s),
-        status_many(s) as u32,
-    )
-}
-
-// The status bytes of the one have a byte in common with the data of the other.
-fn status_meets_data(r: Record, s: Record) -> bool
-    ensures { result ≡ some_of (overlap (touch.status_bytes r)) (moved_data s) }
-{
-    meets_data(s, status_at(r), status_many(r) as u32)
-}
-
 // Two commands conflict, by their ranges pair by pair.
 pub fn ranges_conflict(r: Record, s: Record) -> bool
     ensures { result ≡ touch.conflict r s }
 {
-    if status_crosses(r, s) {
+    if ranges::crosses(r.iopb, STATUS_BYTES, s.iopb, STATUS_BYTES) {
         return true;
     }
-    if status_meets_data(r, s) {
+    if meets_data(s, r.iopb, STATUS_BYTES) {
         return true;
     }
-    if status_meets_data(s, r) {
+    if meets_data(r, s.iopb, STATUS_BYTES) {
         return true;
     }
     if data_conflicts(r, s) {

@@ -14,7 +14,7 @@ use Rattle.meaning.specs.Each.{some_of, sum_of}
 use Rattle.meaning.specs.Sectors.{per_cylinder, sector_count}
 use Rattle.meaning.specs.Drives.{Drives, most_units, no_drive, there, drive_of, drives_of}
 use Rattle.meaning.specs.State.{State, most_commands}
-use Rattle.meaning.specs.Walk.{at753, Chain, refused, accepted, filled, chain_at}
+use Rattle.meaning.specs.Walk.{Chain, refused, accepted, filled, chain_at}
 use Rattle.meaning.specs.Command.{transfers, steps_of}
 use Rattle.meaning.specs.Pick.{bad_record, spoiled}
 use Rattle.meaning.specs.Run.{chain_steps, written}
@@ -63,20 +63,20 @@ module _ (d : Drives) (s : State) (few : (u : ℕ) → sector_count (d.on u) ≤
       omega (arith, command_steps r parts.0, all_steps rs parts.1)
 
   -- none of the chain's commands is bad
-  none_bad_in : (rs : List Record) → chain_at d (at753 0) s ≡ accepted rs → some_of (bad_record d s.store) rs ≡ false
+  none_bad_in : (rs : List Record) → chain_at d 0 s ≡ accepted rs → some_of (bad_record d s.store) rs ≡ false
   unfolding spoiled
   none_bad_in rs e =
       let t = filled (accepted rs) s.table in
-      let sound = (chain_is_sound d (at753 0) s rs e).passed.sound in
+      let sound = (chain_is_sound d 0 s rs e).passed.sound in
       ap (some_of (bad_record d s.store)) (sym (take-append_seam rs (drop (length rs) s.table)))
       ∙ (or-false (ltb most_commands (length rs)) (some_of (bad_record d s.store) (take (length rs) t)) sound).1
 
-  chain_steps_lem : (rs : List Record) → chain_at d (at753 0) s ≡ accepted rs → chain_steps rs (length rs) ≤ 1_024
+  chain_steps_lem : (rs : List Record) → chain_at d 0 s ≡ accepted rs → chain_steps rs (length rs) ≤ 1_024
   unfolding chain_steps
   chain_steps_lem rs e =
-      omega (arith, chain_most d (at753 0) s rs e, all_steps rs (none_bad_in rs e), ap (sum_of steps_of) (take-length rs))
+      omega (arith, chain_most d 0 s rs e, all_steps rs (none_bad_in rs e), ap (sum_of steps_of) (take-length rs))
 
-  outcome_steps : (c : Chain) (cs : List ℕ) (n : ℕ) → chain_at d (at753 0) s ≡ c → run_chain d s.store c ≡ ran cs n → n ≤ 1_024
+  outcome_steps : (c : Chain) (cs : List ℕ) (n : ℕ) → chain_at d 0 s ≡ c → run_chain d s.store c ≡ ran cs n → n ≤ 1_024
   unfolding run_chain
   outcome_steps (refused k) cs n e told = let z : ◌≡◌ {A = ℕ} 0 1 = cc in omega arith
   outcome_steps (accepted rs) cs n e told =

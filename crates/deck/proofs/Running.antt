@@ -15,7 +15,7 @@ use Rattle.meaning.specs.Each.{sum_of}
 use Rattle.meaning.specs.Store.{Store}
 use Rattle.meaning.specs.Drives.{Drives}
 use Rattle.meaning.specs.State.{State}
-use Rattle.meaning.specs.Walk.{at753, Chain, refused, accepted, answered, filled, chain_at, walk_reply, walk_leaves, WalkGives}
+use Rattle.meaning.specs.Walk.{Chain, refused, accepted, answered, filled, chain_at, walk_reply, walk_leaves, WalkGives}
 use Rattle.meaning.specs.Command.{steps_of}
 use Rattle.meaning.specs.Run.{chain_steps, run_number, Tally, written, as_written, ran_to, run_reply, RunGives}
 use Rattle.meaning.specs.Bench.{no_chain, ran, run_chain, no_records}
@@ -84,24 +84,24 @@ module _ (d : Drives) (s : Store) where
   abbrev told : Walked → List Record → bench.Outcome
   told w t = let l = take w.commands t in ran (codes_of l) (written d (chain_steps t w.commands) l s).steps
 
-  acceptance : (c : Chain) → chain_at d (at753 0) before ≡ c → (answered c).number ≡ 0 → run_chain d s c ≡ told (answered c) (filled c no_records)
-  acceptance (refused n) e z = let h = refused_number d (at753 0) before n e in absurd (omega arith)
+  acceptance : (c : Chain) → chain_at d 0 before ≡ c → (answered c).number ≡ 0 → run_chain d s c ≡ told (answered c) (filled c no_records)
+  acceptance (refused n) e z = let h = refused_number d 0 before n e in absurd (omega arith)
   acceptance (accepted rs) e z = accepted_outcome rs
 
-  module _ (w : Walked) (t : List Record) (walked : WalkGives d (at753 0) before w t) where
-    same_number : w.number ≡ (answered (chain_at d (at753 0) before)).number
+  module _ (w : Walked) (t : List Record) (walked : WalkGives d 0 before w t) where
+    same_number : w.number ≡ (answered (chain_at d 0 before)).number
     unfolding WalkGives walk_reply
     same_number = ap (λ (x : Walked). x.number) walked.0
 
     pub refused_outcome : (w.number ≡ 0 → ⊥) → chain_outcome d s ≡ no_chain w.number
-    refused_outcome h = refusal (chain_at d (at753 0) before) (λ q. h (same_number ∙ q)) ∙ ap no_chain (sym same_number)
+    refused_outcome h = refusal (chain_at d 0 before) (λ q. h (same_number ∙ q)) ∙ ap no_chain (sym same_number)
 
     module _ (taken : w.number ≡ 0) where
       abbrev after : State
       after = record { table = t; store = s }
 
       pub few_commands : w.commands ≤ 32
-      few_commands = (walk_is_sound d (at753 0) before w t walked taken).1
+      few_commands = (walk_is_sound d 0 before w t walked taken).1
 
       -- the steps that the run reports: neither 1 nor 9 is given
       run_steps : (b : ℕ) (r : R.Ran) (s' : State) → RunGives d w.commands (as_written d w.commands b) after r s'
@@ -109,12 +109,12 @@ module _ (d : Drives) (s : Store) where
       unfolding RunGives run_reply ran_to as_written
       run_steps b r s' g =
           ap (λ (x : R.Ran). x.steps) g.0
-          ∙ ap (λ (x : Tally). x.steps) (stop (eqb (run_number d w.commands after) 0) _ _ (eq-eqb _ _ (walk_is_sound d (at753 0) before w t walked taken).0))
+          ∙ ap (λ (x : Tally). x.steps) (stop (eqb (run_number d w.commands after) 0) _ _ (eq-eqb _ _ (walk_is_sound d 0 before w t walked taken).0))
 
       chain_told : chain_outcome d s ≡ told w t
       unfolding WalkGives walk_reply walk_leaves
       chain_told =
-          acceptance (chain_at d (at753 0) before) refl (sym same_number ∙ taken)
+          acceptance (chain_at d 0 before) refl (sym same_number ∙ taken)
           ∙ sym (ap₂ told walked.0 walked.1)
 
       pub ran_outcome : (b : ℕ) (r : R.Ran) (s' : State) → b ≡ chain_steps t w.commands

@@ -4,7 +4,7 @@ use Rattle.meaning.specs.declared.Record.{Record}
 use Rattle.meaning.specs.Store.{Store}
 use Rattle.meaning.specs.Drives.{Drives}
 use Rattle.meaning.specs.State.{most_commands}
-use Rattle.meaning.specs.Walk.{at753, chain_at}
+use Rattle.meaning.specs.Walk.{chain_at}
 use Rattle.meaning.specs.Bench.{no_deck, no_chain, ran, run_chain, no_records}
 use Rattle.meaning.specs.Bench as bench
 use Rattle.deck.specs.declared.Outcome.{Outcome}
@@ -23,7 +23,7 @@ codes_of rs = map (λ (r : Record). r.code) rs
 
 -- what comes of the chain at 0 in memory
 abbrev pub chain_outcome : Drives → Store → bench.Outcome
-chain_outcome d s = run_chain d s (chain_at d (at753 0) (record { table = no_records; store = s }))
+chain_outcome d s = run_chain d s (chain_at d 0 (record { table = no_records; store = s }))
 
 -- how many codes a case has
 abbrev pub commands_in : Outcome → ℕ

@@ -16,7 +16,7 @@ use Rattle.meaning.specs.declared.Ran.{Ran}
 use Rattle.meaning.specs.Store.{memory}
 use Rattle.meaning.specs.State.{State, most_commands}
 use Rattle.meaning.specs.Code.{odd}
-use Rattle.meaning.specs.Walk.{Entry, first_at, Chain, refused, accepted, follow, chain_at, filled, answered, walk_reply, walk_leaves, WalkGives}
+use Rattle.meaning.specs.Walk.{Chain, refused, accepted, follow, chain_at, filled, answered, walk_reply, walk_leaves, WalkGives}
 use Rattle.meaning.specs.Pick.{pick_number, step_at, picked, PickGives}
 use Rattle.meaning.specs.Run.{Tally, at_start, one_pick, picks_from, by_picks, as_written, all_finished, run_number, ran_to, run_reply, RunGives}
 use Rattle.meaning.proofs.Means.{Means, holds, fails, means_lt}
@@ -44,14 +44,14 @@ alone s = λ j. record { table = append-nil s.table j; store = s.store }
 
 -- ---- the walk
 
-module _ (d : Drives) (start : Entry) where
+module _ (d : Drives) (start : ℕ) where
   abbrev WalksBehind : State → List Record → Type 0
   WalksBehind s rest = (w : Walked) (t' : List Record) → WalkGives d start s w t' → WalkGives d start (before s rest) w (t' ++ rest)
 
   chain_behind : (s : State) (rest : List Record) → most_commands ≤ length s.table → chain_at d start (before s rest) ≡ chain_at d start s
   unfolding chain_at
   chain_behind s rest full =
-      ap (λ (b : Bool). cond b (refused 1) (cond (odd (first_at start)) (refused 2) (follow most_commands start.front start.relocation (s.store memory) d [] (first_at start))))
+      ap (λ (b : Bool). cond b (refused 1) (cond (odd start) (refused 2) (follow most_commands (s.store memory) d [] start)))
       (full_table d (before s rest) (omega (arith, length-append s.table rest)) ∙ sym (full_table d s full))
 
   filled_behind : (c : Chain) (t rest : List Record) → ((rs : List Record) → c ≡ accepted rs → length rs ≤ length t) → filled c (t ++ rest) ≡ filled c t ++ rest

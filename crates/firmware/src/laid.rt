@@ -2,7 +2,6 @@
 // once, and lays back only what it changed. The functions over the lent run are proved by hand.
 ghost use Rattle.std.specs.Prelude.{◌≡◌, cond, ◌≤◌, ◌<◌, length, get_or, eqb};
 ghost use Rattle.meaning.specs.Drives.{drives_of};
-ghost use Rattle.meaning.specs.Front.{front_of};
 ghost use Rattle.meaning.specs.State.{most_commands};
 ghost use Rattle.meaning.specs.Command.{no_record};
 ghost use Rattle.meaning.specs.Bench.{no_records};
@@ -13,8 +12,8 @@ ghost use Rattle.firmware.specs.Laid.{over, copied_out, with_steps};
 use board::pick::{PickedTaken, Sight};
 use board::run::RanTaken;
 use board::table;
+use chain::walk;
 use chain::walk::MOST_COMMANDS;
-use chain::{front, walk};
 use command::{sound, touch};
 use meaning::{LentDrives, Ran, Record};
 use units::rooms;
@@ -52,26 +51,25 @@ pub(crate) fn load(table: &[Record]) -> [Record; 32]
     load_first(table, MOST_COMMANDS)
 }
 
-// The records of the IOPBs at the first n of these addresses, made in their places of the lent table; the mark means their front end. One
-// without a list is made apart, by a store of its own: so the compiler lays its zeros there, and copies none.
+// The records of the IOPBs at the first n of these addresses, made in their places of the lent table. One without a list is made apart, by
+// a store of its own: so the compiler lays its zeros there, and copies none.
 pub(crate) fn fill(
     memory: &[u8],
     l: LentDrives,
-    mark: u8,
     addresses: [u32; 32],
     n: usize,
     table: &mut [Record],
 )
     requires { (n ≤ length table.old) × (n ≤ most_commands) }
-    ensures { table.new ≡ filled_at (front_of mark) memory.now (drives_of l) n addresses table.old }
+    ensures { table.new ≡ filled_at memory.now (drives_of l) n addresses table.old }
 {
     let mut k = 0;
     while k < n {
         let at = addresses[k];
-        if (iopb::sgm(memory, at) == 1) & (mark != front::MARK_431) {
-            table[k] = walk::record_at(memory, l, at, mark);
+        if iopb::sgm(memory, at) == 1 {
+            table[k] = walk::record_at(memory, l, at);
         } else {
-            table[k] = walk::plain_record_at(memory, l, at, mark);
+            table[k] = walk::plain_record_at(memory, l, at);
         }
         k += 1;
     }

@@ -6,12 +6,11 @@ ghost use Rattle.std.specs.Prelude.{◌≡◌, min};
 ghost use Rattle.meaning.specs.Store.{lent, images};
 ghost use Rattle.meaning.specs.Drives.{drives_of};
 ghost use Rattle.meaning.specs.State.{most_commands, state_in};
-ghost use Rattle.meaning.specs.Walk.{at753, at431, WalkGives};
+ghost use Rattle.meaning.specs.Walk.{WalkGives};
 ghost use Rattle.meaning.specs.Pick.{PickGives};
 ghost use Rattle.meaning.specs.Run.{chain_steps, by_picks, as_written, RunGives};
 
 use crate::laid;
-use chain::front;
 use chain::walk::MOST_COMMANDS;
 use meaning::{LentDrives, Ran, Record, Walked};
 
@@ -27,7 +26,7 @@ pub extern "C" fn rosadenca_walk(
     start: u32,
     table: &mut [Record],
 ) -> Walked
-    ensures { WalkGives (drives_of drives) (at753 start) (state_in (lent memory.now (images image0.now image1.now image2.now image3.now)) table.old) result table.new }
+    ensures { WalkGives (drives_of drives) start (state_in (lent memory.now (images image0.now image1.now image2.now image3.now)) table.old) result table.new }
 {
     let f = chain::walk::find(
         memory,
@@ -40,45 +39,7 @@ pub extern "C" fn rosadenca_walk(
         table.len(),
     );
     let walked = f.walked;
-    laid::fill(memory, drives, 0, f.addresses, walked.commands, table);
-    walked
-}
-
-// The walk along a 431's chain, from the relocation word and the address word of its registers (Multibus 6 to 16).
-#[unsafe(no_mangle)]
-pub extern "C" fn rosadenca_walk_431(
-    memory: &[u8],
-    image0: &[u8],
-    image1: &[u8],
-    image2: &[u8],
-    image3: &[u8],
-    drives: LentDrives,
-    relocation: u16,
-    start: u16,
-    table: &mut [Record],
-) -> Walked
-    ensures { WalkGives (drives_of drives) (at431 relocation start) (state_in (lent memory.now (images image0.now image1.now image2.now image3.now)) table.old) result table.new }
-{
-    let f = chain::walk::find_431(
-        memory,
-        image0,
-        image1,
-        image2,
-        image3,
-        drives,
-        relocation,
-        start,
-        table.len(),
-    );
-    let walked = f.walked;
-    laid::fill(
-        memory,
-        drives,
-        front::MARK_431,
-        f.addresses,
-        walked.commands,
-        table,
-    );
+    laid::fill(memory, drives, f.addresses, walked.commands, table);
     walked
 }
 

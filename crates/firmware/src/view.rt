@@ -1,8 +1,8 @@
 // The IOPB at an address of the lent memory, for C and Rust to call: all that a viewer made there shows, at once (View 1 to 7).
 ghost use Rattle.std.specs.Prelude.{◌≡◌};
-ghost use Rattle.meaning.specs.View.{view_of, view_of431};
+ghost use Rattle.meaning.specs.View.{view_of};
 
-use meaning::{Iopb, Iopb431};
+use meaning::Iopb;
 
 // The number of the viewer's making, and every field; each field is 0 where the number is not.
 #[unsafe(no_mangle)]
@@ -10,12 +10,4 @@ pub extern "C" fn rosadenca_view(memory: &[u8], at: u32) -> Iopb
     ensures { result ≡ view_of memory.now at }
 {
     viewer::view(memory, at)
-}
-
-// The same of a 431's IOPB (Multibus 20 and 21).
-#[unsafe(no_mangle)]
-pub extern "C" fn rosadenca_view_431(memory: &[u8], at: u32) -> Iopb431
-    ensures { result ≡ view_of431 memory.now at }
-{
-    viewer::sister::view(memory, at)
 }

@@ -1,11 +1,9 @@
 // The thirty bytes of an IOPB: each field (IOPB 3 to 14), read from a slice at an address.
 // Numbers of several bytes have the high byte first. Where the thirty bytes are not all in the slice, every field is 0.
-pub mod sister;
-
 ghost use Rattle.std.specs.Prelude.{◌≡◌, ◌<◌};
 ghost use Rattle.meaning.specs.Fields as iopb;
 
-// How many bytes an IOPB of a 753 has.
+// How many bytes an IOPB has.
 pub const IOPB_BYTES: usize = 30;
 
 // Whether all thirty bytes are in the slice.
@@ -15,25 +13,17 @@ pub fn all_in(m: &[u8], at: u32) -> bool
     at as usize + IOPB_BYTES <= m.len()
 }
 
-// Byte k of so many bytes there.
-pub(crate) fn byte_within(m: &[u8], at: u32, long: usize, k: usize) -> u8
-    requires { (k < long) × (long < 256) }
-    ensures { result ≡ iopb.byte_within long m.now at k }
-{
-    let start = at as usize;
-    if start + long <= m.len() {
-        m[start + k]
-    } else {
-        0
-    }
-}
-
 // Byte k of the IOPB.
 fn byte_of(m: &[u8], at: u32, k: usize) -> u8
     requires { k < 30 }
     ensures { result ≡ iopb.byte_of m.now at k }
 {
-    byte_within(m, at, IOPB_BYTES, k)
+    let start = at as usize;
+    if start + IOPB_BYTES <= m.len() {
+        m[start + k]
+    } else {
+        0
+    }
 }
 
 // Bytes k and k + 1 as one number.

@@ -14,7 +14,7 @@ use Rattle.meaning.specs.declared.Record.{Record}
 use Rattle.meaning.specs.Store.{memory, disk, Store}
 use Rattle.meaning.specs.State.{State, most_commands}
 use Rattle.meaning.specs.Sectors.{sector_bytes, image_limit, per_cylinder, sector_count, maxima_right, image_right}
-use Rattle.meaning.specs.Front.{front_in, iopb_bytes_of}
+use Rattle.meaning.specs.Fields.{iopb_bytes}
 use Rattle.meaning.specs.Drives.{Drives, most_units}
 use Rattle.meaning.specs.Sizes.{memory_limit, unit_wrong, images_wrong, store_wrong, sizes_wrong}
 use Rattle.meaning.specs.Ranges.{Range}
@@ -142,7 +142,7 @@ means_bad_transfer d s r =
 pub means_bad_record : (d : Drives) (s : Store) (r : Record) → Means (BadRecord d s r) (bad_record d s r)
 unfolding bad_record
 means_bad_record d s r =
-    means_or₃ (means_above (r.iopb + iopb_bytes_of (front_in r)) (length (s memory))) (means_lt (steps_of r) r.taken)
+    means_or₃ (means_above (r.iopb + iopb_bytes) (length (s memory))) (means_lt (steps_of r) r.taken)
     (means_and (means_transfers r) (means_bad_transfer d s r))
 
 pub means_spoiled : (d : Drives) (n : ℕ) (s : State) → Means (Spoiled d n s) (spoiled d n s)
@@ -151,7 +151,7 @@ means_spoiled d n s = means_or (means_lt most_commands n) (means_some (means_bad
 
 -- a record that is not bad, part by part
 pub record Good (d : Drives) (s : Store) (r : Record) : Type 0 where
-  pub placed : r.iopb + iopb_bytes_of (front_in r) ≤ length (s memory)
+  pub placed : r.iopb + iopb_bytes ≤ length (s memory)
   pub few : r.taken ≤ steps_of r
   pub there : transfers r ≡ true → Present d r.unit
   pub some : transfers r ≡ true → 1 ≤ r.count

@@ -18,10 +18,8 @@ pub mod Looks
 pub mod Conflict
 pub mod Links
 pub mod Pieces
-pub mod Front
 pub mod Records
 pub mod Numbers
-pub mod Sister
 pub mod Counts
 pub mod Still
 pub mod Lent

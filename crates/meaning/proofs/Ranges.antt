@@ -8,6 +8,7 @@ use mathlib.Core.Bool.{Bool}
 use mathlib.Core.List.{List, [], ◌∷◌}
 use Rattle.meaning.specs.Each.{some_of}
 use Rattle.meaning.specs.Store.{Space, memory, disk, same}
+use Rattle.meaning.specs.Fields.{iopb_bytes}
 use Rattle.meaning.specs.Ranges.{Range, bytes, crosses, overlap, meet}
 use Rattle.meaning.specs.Walk.{shares}
 use Rattle.meaning.specs.Conditions.{LiesIn, Shares, SomeOf, OverlapIsSharing}
@@ -39,8 +40,8 @@ pub overlap_is_sharing : OverlapIsSharing
 overlap_is_sharing r s = (when_true (means_overlap r s), is_true (means_overlap r s))
 
 -- two IOPBs share a byte
-pub means_shares : (n a b : ℕ) → Means (Shares n a b) (shares n a b)
-means_shares n a b = means_iff ((λ c. (c.1, c.2.1, c.3.1)), λ c. (memory, c.0, (refl, c.1), (refl, c.2))) (means_overlap (bytes a n) (bytes b n))
+pub means_shares : (a b : ℕ) → Means (Shares a b) (shares a b)
+means_shares a b = means_iff ((λ c. (c.1, c.2.1, c.3.1)), λ c. (memory, c.0, (refl, c.1), (refl, c.2))) (means_overlap (bytes a iopb_bytes) (bytes b iopb_bytes))
 
 -- ---- lists of ranges
 

@@ -1,15 +1,14 @@
 -- What an accepted walk gives: at most 32 records, all as number 9 asks, with no step taken; so 1 and 9 let it pass. Going along the
 -- chain, each record that the walk fills is good, since its code was fixed by the same tests.
 use mathlib.Core.Path.{◌≡◌, refl, sym, ap, ap₂, ◌∙◌, subst}
-use Prim.Native.Nat.{ℕ, zero, suc, ◌+◌, ◌*◌, ◌≤◌, ◌<◌, zero-le}
-use native.Mathlib.Nat.{add-zero}
+use Prim.Native.Nat.{ℕ, zero, suc, ◌+◌, ◌≤◌, ◌<◌, zero-le}
 use native.Mathlib.Omega.{arith}
 use mathlib.Core.Bool.{Bool, true, false, not, ◌&&◌, cond}
 use mathlib.Core.List.{List, [], ◌∷◌, ◌++◌, map}
 use lib.ListN.{length, drop, length-append, length-drop}
 use lib.Seq.{take-append_seam}
 use lib.Dec.{ltb, eqb, lit<, lit≤}
-use borrow.Author.Tests.{le-ltb, eqb-true, eq-eqb, not-false}
+use borrow.Author.Tests.{le-ltb, eqb-true, not-false}
 use Rattle.meaning.specs.declared.Drive.{Drive}
 use Rattle.meaning.specs.declared.Copied.{Copied}
 use Rattle.meaning.specs.declared.Record.{Record}
@@ -17,19 +16,14 @@ use Rattle.meaning.specs.First.{Row, first_of, ◌↝◌, ◌telling◌}
 use Rattle.meaning.specs.Each.{some_of, sum_of}
 use Rattle.meaning.specs.Store.{memory, Store}
 use Rattle.meaning.specs.State.{State, most_commands}
-use Rattle.meaning.specs.Sectors.{sector_bytes, sector_count}
+use Rattle.meaning.specs.Sectors.{sector_count}
 use Rattle.meaning.specs.Drives.{Drives}
 use Rattle.meaning.specs.Sizes.{sizes_wrong}
-use Rattle.meaning.specs.Fields.{fits, all_in}
-use Rattle.meaning.specs.declared.FrontEnd.{FrontEnd}
-use Rattle.meaning.specs.declared.FrontEnd.TheVariants.{Xylogics753, Xylogics431}
-use Rattle.meaning.specs.Front.{iopb_bytes_of}
-use Rattle.meaning.specs.declared.Copied431.{Copied431}
-use Rattle.meaning.specs.Sister.{copied431_at, code431}
+use Rattle.meaning.specs.Fields.{all_in}
 use Rattle.meaning.specs.declared.Link.{Link}
 use Rattle.meaning.specs.Links.{most_links}
 use Rattle.meaning.specs.Code.{copied_at, nop, write, command_in, odd, first_sector, fitted_on_drive, links_in, list_outside, command_rows, transfer_rows, data_rows, code_of, early_code, links_read}
-use Rattle.meaning.specs.Walk.{record_of, record431, Entry, first_at, made_by, shares, misplaced, Chain, refused, accepted, follow, chain_at, filled}
+use Rattle.meaning.specs.Walk.{record_of, goes_on, shares, Chain, refused, accepted, follow, chain_at, filled}
 use Rattle.meaning.specs.Command.{transfers, steps_of, remaining}
 use Rattle.meaning.specs.Pick.{bad_transfer, bad_record, spoiled}
 use Rattle.meaning.specs.Run.{chain_steps, steps_left}
@@ -37,26 +31,8 @@ use Rattle.meaning.proofs.All.{All, all_append, Among, here, there, all_at}
 use Rattle.meaning.proofs.Tests.{and_no, sum-map}
 use Rattle.meaning.proofs.Links.{in_few, in_listed, none_outside, links_kept}
 use Rattle.meaning.proofs.Numbers.{Off, rows_off, off_last, Passed, sizes_long}
-use Rattle.meaning.proofs.Sister.{tests_off, memory_off}
 
 -- ---- a code of 00
-
--- no row applies of what only a transfer is asked before its data is looked at; each is found by what it says
-module _ (c : Copied) (d : Drive) (off : All Off (transfer_rows c d)) where
-  row : {r : Row} → Among r (transfer_rows c d) → Off r
-  row a = all_at Off off a
-
-  there_is : not d.present ≡ false
-  there_is = row {r = not d.present ↝ 0x42} here
-
-  some_sectors : eqb c.count 0 ≡ false
-  some_sectors = row {r = eqb c.count 0 ↝ 0x13} (search (here, there) depth 12)
-
-  on_drive_lem : ltb (sector_count d) (first_sector d c + c.count) ≡ false
-  on_drive_lem = row {r = ltb (sector_count d) (first_sector d c + c.count) ↝ 0x10 telling fitted_on_drive c d} (search (here, there) depth 12)
-
-  unprotected : (eqb (command_in c.byte0) write && d.protected) ≡ false
-  unprotected = row {r = (eqb (command_in c.byte0) write && d.protected) ↝ 0x90} (search (here, there) depth 12)
 
 -- of a transfer whose code is 00, no row of what only a transfer is asked applies, neither before its data is looked at nor after
 module _ (c : Copied) (d : Drive) (n : ℕ) (xs : List Link) (zero-code : code_of c d n xs ≡ 0) (other : eqb (command_in c.byte0) nop ≡ false) where
@@ -73,6 +49,10 @@ module _ (c : Copied) (d : Drive) (n : ℕ) (xs : List Link) (zero-code : code_o
 
   transfer_off : All Off (transfer_rows c d)
   transfer_off = rows_off (transfer_rows c d) by_data transfer_code refl
+
+  -- a row of that table, found by what it says
+  row : {r : Row} → Among r (transfer_rows c d) → Off r
+  row a = all_at Off transfer_off a
 
   data_off : All Off (data_rows c n xs)
   data_off = rows_off (data_rows c n xs) 0 (sym (off_last (transfer_rows c d) by_data transfer_off) ∙ transfer_code) refl
@@ -109,10 +89,12 @@ module _ (d : Drives) (s : Store) (c : Copied) (a : ℕ) where
       let n = length m in
       let xs = links_in m c in
       let last = data_off c own n xs e h in
-      let off = transfer_off c own n xs e h in
+      let here-it-is : not own.present ≡ false = row c own n xs e h {r = not own.present ↝ 0x42} here in
+      let none : eqb c.count 0 ≡ false = row c own n xs e h {r = eqb c.count 0 ↝ 0x13} (search (here, there) depth 12) in
+      let drive : ltb (sector_count own) (first_sector own c + c.count) ≡ false = row c own n xs e h {r = ltb (sector_count own) (first_sector own c + c.count) ↝ 0x10 telling fitted_on_drive c own} (search (here, there) depth 12) in
+      let unprotected : (eqb (command_in c.byte0) write && own.protected) ≡ false = row c own n xs e h {r = (eqb (command_in c.byte0) write && own.protected) ↝ 0x90} (search (here, there) depth 12) in
       let read = read_all m c own e h in
-      rw (there_is c own off, read, links_kept xs, in_listed m c, some_sectors c own off, le-ltb most_links (length xs) (in_few m c), last.1.1.1.0, last.1.0, on_drive_lem c own off, e)
-      (unprotected c own off)
+      rw (here-it-is, read, links_kept xs, in_listed m c, none, le-ltb most_links (length xs) (in_few m c), last.1.1.1.0, last.1.0, drive, e) unprotected
 
   transfer_good : (transfers filling && bad_transfer d s filling) ≡ false
   unfolding record_of
@@ -134,45 +116,6 @@ filled_fresh d s c a h =
     let r = record_of c a (d.on c.unit) (s memory) in
     record { sound = rw (h, le-ltb (steps_of r) 0 zero-le) (transfer_good d s c a); untaken = refl }
 
--- ---- the same of a 431's
-
-module _ (d : Drives) (s : Store) (c : Copied431) (a : ℕ) where
-  abbrev its_own : Drive
-  its_own = d.on c.command.unit
-
-  abbrev filling431 : Record
-  filling431 = record431 c a its_own (length (s memory))
-
-  abbrev code_is : ℕ
-  code_is = code431 c its_own (length (s memory))
-
-  code_good_431 : code_is ≡ 0 → eqb (command_in c.command.byte0) nop ≡ false → bad_transfer d s filling431 ≡ false
-  unfolding bad_transfer record431
-  code_good_431 e h =
-      let off = tests_off c its_own (length (s memory)) e h in
-      let inside = memory_off c its_own (length (s memory)) e h in
-      let whole : sector_bytes * c.command.count + 0 ≡ sector_bytes * c.command.count = add-zero (sector_bytes * c.command.count) in
-      rw (there_is c.command its_own off, some_sectors c.command its_own off, inside.0, eq-eqb _ _ whole, on_drive_lem c.command its_own off, e)
-      (unprotected c.command its_own off)
-
-  transfer_good_431 : (transfers filling431 && bad_transfer d s filling431) ≡ false
-  unfolding record431
-  transfer_good_431 = go (eqb code_is 0) (eqb (command_in c.command.byte0) nop) refl refl
-    where
-      go : (x y : Bool) → eqb code_is 0 ≡ x → eqb (command_in c.command.byte0) nop ≡ y → (transfers filling431 && bad_transfer d s filling431) ≡ false
-      go false y e h = rw e
-      go true true e h = rw (e, eqb-true (command_in c.command.byte0) 0 h)
-      go true false e h = rw (code_good_431 (eqb-true code_is 0 e) h) (and_no (transfers filling431))
-
-  fresh_431 : fits (iopb_bytes_of Xylogics431) (s memory) a ≡ true → Fresh d s filling431
-  unfolding bad_record record431
-  fresh_431 h = record { sound = rw (h, le-ltb (steps_of filling431) 0 zero-le) transfer_good_431; untaken = refl }
-
--- whatever front end a record is of
-made_fresh : (f : FrontEnd) (relocation : ℕ) (d : Drives) (s : Store) (a : ℕ) → fits (iopb_bytes_of f) (s memory) a ≡ true → Fresh d s (made_by f relocation (s memory) d a).record_made
-made_fresh Xylogics753 relocation d s a h = filled_fresh d s (copied_at (s memory) a) a h
-made_fresh Xylogics431 relocation d s a h = fresh_431 d s (copied431_at relocation (s memory) a) a h
-
 -- ---- along the chain
 
 -- what a chain comes to: a number other than 0, or at most 32 fresh records
@@ -185,39 +128,38 @@ fine_cond : (d : Drives) (s : State) (b : Bool) (x y : Chain) → (b ≡ true �
 fine_cond d s true x y f g = f refl
 fine_cond d s false x y f g = g refl
 
-follow_fine : (more : ℕ) (f : FrontEnd) (relocation : ℕ) (d : Drives) (s : State) (earlier : List Record) (a : ℕ) → sizes_wrong d s ≡ false
-    → length earlier + more ≤ most_commands → All (Fresh d s.store) earlier → Fine d s (follow more f relocation (s.store memory) d earlier a)
+follow_fine : (more : ℕ) (d : Drives) (s : State) (earlier : List Record) (a : ℕ) → sizes_wrong d s ≡ false
+    → length earlier + more ≤ most_commands → All (Fresh d s.store) earlier → Fine d s (follow more (s.store memory) d earlier a)
 unfolding follow Fine
-follow_fine zero f relocation d s earlier a z l h = lit< tt
-follow_fine (suc more) f relocation d s earlier a z l h =
+follow_fine zero d s earlier a z l h = lit< tt
+follow_fine (suc more) d s earlier a z l h =
     let m = s.store memory in
-    let x = made_by f relocation m d a in
-    let rs = earlier ++ x.record_made ∷ [] in
-    let placed = fits (iopb_bytes_of f) m a in
-    let longer : length rs ≡ length earlier + 1 = length-append earlier (x.record_made ∷ []) in
-    let all : placed ≡ true → All (Fresh d s.store) rs = λ i. all_append (Fresh d s.store) earlier (x.record_made ∷ []) h (made_fresh f relocation d s.store a i, tt) in
-    fine_cond d s (misplaced f a) _ _ (λ _. lit< tt) λ _.
-    fine_cond d s (not placed) _ _ (λ _. lit< tt) λ i.
-    fine_cond d s (some_of (λ q. shares (iopb_bytes_of f) q.iopb a) earlier) _ _ (λ _. lit< tt) λ _.
-    let fresh = all (not-false placed i) in
-    fine_cond d s x.follows _ _ (λ _. follow_fine more f relocation d s rs x.next z (omega arith) fresh) λ _.
+    let c = copied_at m a in
+    let r = record_of c a (d.on c.unit) m in
+    let rs = earlier ++ r ∷ [] in
+    let longer : length rs ≡ length earlier + 1 = length-append earlier (r ∷ []) in
+    let all : all_in m a ≡ true → All (Fresh d s.store) rs = λ e. all_append (Fresh d s.store) earlier (r ∷ []) h (filled_fresh d s.store c a e, tt) in
+    fine_cond d s (not (all_in m a)) _ _ (λ _. lit< tt) λ e.
+    fine_cond d s (some_of (λ q. shares q.iopb a) earlier) _ _ (λ _. lit< tt) λ _.
+    let fresh = all (not-false (all_in m a) e) in
+    fine_cond d s (goes_on c) _ _ (λ _. follow_fine more d s rs c.next z (omega arith) fresh) λ _.
     (z, omega arith, fresh)
 
-pub chain_fine : (d : Drives) (e : Entry) (s : State) → Fine d s (chain_at d e s)
+pub chain_fine : (d : Drives) (start : ℕ) (s : State) → Fine d s (chain_at d start s)
 unfolding chain_at Fine
-chain_fine d e s =
-    fine_cond d s (sizes_wrong d s) _ _ (λ _. lit< tt) λ z.
-    fine_cond d s (odd (first_at e)) _ _ (λ _. lit< tt) λ _.
-    follow_fine most_commands e.front e.relocation d s [] (first_at e) z (lit≤ tt) tt
+chain_fine d start s =
+    fine_cond d s (sizes_wrong d s) _ _ (λ _. lit< tt) λ e.
+    fine_cond d s (odd start) _ _ (λ _. lit< tt) λ _.
+    follow_fine most_commands d s [] start e (lit≤ tt) tt
 
 -- a refusal is never number 0, and there are at most 32 commands
-pub refused_number : (d : Drives) (from : Entry) (s : State) (k : ℕ) → chain_at d from s ≡ refused k → 0 < k
+pub refused_number : (d : Drives) (start : ℕ) (s : State) (k : ℕ) → chain_at d start s ≡ refused k → 0 < k
 unfolding Fine
-refused_number d from s k e = subst (Fine d s) e (chain_fine d from s)
+refused_number d start s k e = subst (Fine d s) e (chain_fine d start s)
 
-pub chain_most : (d : Drives) (from : Entry) (s : State) (rs : List Record) → chain_at d from s ≡ accepted rs → length rs ≤ most_commands
+pub chain_most : (d : Drives) (start : ℕ) (s : State) (rs : List Record) → chain_at d start s ≡ accepted rs → length rs ≤ most_commands
 unfolding Fine
-chain_most d from s rs e = (subst (Fine d s) e (chain_fine d from s)).1
+chain_most d start s rs e = (subst (Fine d s) e (chain_fine d start s)).1
 
 -- ---- what the walk gives
 
@@ -244,11 +186,11 @@ pub table_length : (rs t : List Record) → length rs ≤ length t → length (r
 table_length rs t h = simp (length-append, length-drop) (omega arith)
 
 -- an accepted chain, in the table that it was walked into
-pub chain_is_sound : (d : Drives) (from : Entry) (s : State) (rs : List Record) → chain_at d from s ≡ accepted rs
+pub chain_is_sound : (d : Drives) (start : ℕ) (s : State) (rs : List Record) → chain_at d start s ≡ accepted rs
     → Sound d s.store (filled (accepted rs) s.table) (length rs)
 unfolding Fine sizes_wrong spoiled chain_steps steps_left
-chain_is_sound d from s rs e =
-    let h : Fine d s (accepted rs) = subst (Fine d s) e (chain_fine d from s) in
+chain_is_sound d start s rs e =
+    let h : Fine d s (accepted rs) = subst (Fine d s) e (chain_fine d start s) in
     let more = drop (length rs) s.table in
     let all = all_remain d s.store rs h.2 in
     let long = sizes_long d s h.0 in

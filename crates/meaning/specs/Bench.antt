@@ -4,7 +4,7 @@ use Rattle.meaning.specs.Drives.{Drives, drives_of}
 use Rattle.meaning.specs.declared.Record.{Record}
 use Rattle.meaning.specs.Store.{Store, images}
 use Rattle.meaning.specs.State.{State, most_commands, state_of}
-use Rattle.meaning.specs.Walk.{Chain, refused, accepted, at753, chain_at}
+use Rattle.meaning.specs.Walk.{Chain, refused, accepted, chain_at}
 use Rattle.meaning.specs.Command.{blank_record}
 use Rattle.meaning.specs.Run.{written, chain_steps}
 use Rattle.meaning.specs.Deck.{is_deck, bench_drive, bench_drives, bench_memory, bench_image}
@@ -34,5 +34,5 @@ unfoldable pub outcome_of : List ℕ → Outcome
 unfolding run_chain is_deck chain_at bench_memory bench_image bench_drive
 outcome_of b =
     let d = drives_of (bench_drives b) in
-    let o = run_chain d (bench_state b).store (chain_at d (at753 0) (bench_state b)) in
+    let o = run_chain d (bench_state b).store (chain_at d 0 (bench_state b)) in
     cond (is_deck b) o no_deck

@@ -40,8 +40,8 @@ links_of r = take r.ranges r.list
 
 -- what `get_or` gives past the end of a table; no promise speaks of it
 abbrev pub no_record : Record
-no_record = record { iopb = 0; address = 0; sector = 0; taken = 0; ranges = 0; front = 0; count = 0; unit = 0; byte0 = 0; code = 0; fitted = 0; list = [] }
+no_record = record { iopb = 0; address = 0; sector = 0; taken = 0; ranges = 0; count = 0; unit = 0; byte0 = 0; code = 0; fitted = 0; list = [] }
 
 -- a record of zeros, as a table has it that holds no command yet
 abbrev pub blank_record : Record
-blank_record = record { iopb = 0; address = 0; sector = 0; taken = 0; ranges = 0; front = 0; count = 0; unit = 0; byte0 = 0; code = 0; fitted = 0; list = no_links }
+blank_record = record { iopb = 0; address = 0; sector = 0; taken = 0; ranges = 0; count = 0; unit = 0; byte0 = 0; code = 0; fitted = 0; list = no_links }

@@ -8,7 +8,7 @@ use Rattle.meaning.specs.Ranges.{Range, overlap}
 use Rattle.meaning.specs.State.{State, most_commands}
 use Rattle.meaning.specs.Sectors.{sector_bytes, image_limit, sector_count}
 use Rattle.meaning.specs.Drives.{Drives, most_units}
-use Rattle.meaning.specs.Front.{front_in, iopb_bytes_of, status_many, status_at}
+use Rattle.meaning.specs.Fields.{iopb_bytes}
 use Rattle.meaning.specs.Sizes.{memory_limit}
 use Rattle.meaning.specs.Code.{command_in, read, write}
 use Rattle.meaning.specs.Command.{steps_of, no_record}
@@ -30,9 +30,9 @@ LiesIn r p x = (p ≡ r.space) × Within x r.from r.many
 abbrev pub OverlapIsSharing : Type 0
 OverlapIsSharing = (r s : Range) → (overlap r s ≡ true) ↔ ((p : Space) × (x : ℕ) × LiesIn r p x × LiesIn s p x)
 
--- two IOPBs of n bytes, at a and at b, share a byte
-abbrev pub Shares : ℕ → ℕ → ℕ → Type 0
-Shares n a b = (x : ℕ) × Within x a n × Within x b n
+-- two IOPBs, at a and at b, share a byte
+abbrev pub Shares : ℕ → ℕ → Type 0
+Shares a b = (x : ℕ) × Within x a iopb_bytes × Within x b iopb_bytes
 
 -- a drive whose last head has more sectors than the others
 abbrev pub MaximaWrong : Drive → Type 0
@@ -96,7 +96,7 @@ BadTransfer d s r =
 -- its IOPB not all in memory, or more steps taken than it has, or a transfer of that kind
 abbrev pub BadRecord : Drives → Store → Record → Type 0
 BadRecord d s r =
-    (length (s memory) < r.iopb + iopb_bytes_of (front_in r)) ⊎ (steps_of r < r.taken) ⊎ ((Reads r ⊎ Writes r) × BadTransfer d s r)
+    (length (s memory) < r.iopb + iopb_bytes) ⊎ (steps_of r < r.taken) ⊎ ((Reads r ⊎ Writes r) × BadTransfer d s r)
 
 -- over 32 commands, or a record in use is such a one
 abbrev pub Spoiled : Drives → ℕ → State → Type 0
@@ -107,7 +107,7 @@ abbrev pub InData : Record → Space → ℕ → Type 0
 InData r p x = SomeOf (λ y. LiesIn y p x) (data_bytes r)
 
 abbrev pub InStatus : Record → Space → ℕ → Type 0
-InStatus r p x = (p ≡ memory) × Within x (status_at r) (status_many (front_in r))
+InStatus r p x = (p ≡ memory) × Within x r.iopb 4
 
 abbrev pub InSectors : Record → Space → ℕ → Type 0
 InSectors r p x = (p ≡ disk r.unit) × Within x r.sector r.count

@@ -7,19 +7,13 @@ use Rattle.std.specs.Prelude.{ℕ, ◌+◌, ◌*◌, ◌/◌, ◌%◌, ◌^◌, 
 abbrev pub iopb_bytes : ℕ
 iopb_bytes = 30
 
--- all n bytes at a are in memory; all thirty of an IOPB are
-abbrev pub fits : ℕ → List ℕ → ℕ → Bool
-fits n m a = leb (a + n) (length m)
-
+-- all thirty bytes at a are in memory
 abbrev pub all_in : List ℕ → ℕ → Bool
-all_in m a = fits iopb_bytes m a
+all_in m a = leb (a + iopb_bytes) (length m)
 
--- byte k of the n bytes at a; of the IOPB at a
-abbrev pub byte_within : ℕ → List ℕ → ℕ → ℕ → ℕ
-byte_within n m a k = cond (fits n m a) (get_or m (a + k) 0) 0
-
+-- byte k of the IOPB at a
 unfoldable pub byte_of : List ℕ → ℕ → ℕ → ℕ
-byte_of m a k = byte_within iopb_bytes m a k
+byte_of m a k = cond (all_in m a) (get_or m (a + k) 0) 0
 
 -- bit k of a byte
 abbrev pub bit : ℕ → ℕ → ℕ

@@ -11,8 +11,6 @@ pub mod Drives
 pub mod Place
 pub mod Look
 pub mod Fields
-pub mod Front
-pub mod SisterFields
 pub mod View
 pub mod Ranges
 pub mod State
@@ -20,7 +18,6 @@ pub mod Sizes
 pub mod Links
 pub mod Ends
 pub mod Code
-pub mod Sister
 pub mod Walk
 pub mod Command
 pub mod Touch

@@ -8,8 +8,7 @@ use Rattle.meaning.specs.Store.{memory, Store}
 use Rattle.meaning.specs.State.{State, most_commands}
 use Rattle.meaning.specs.Sectors.{sector_bytes}
 use Rattle.meaning.specs.Ends.{drive_end}
-use Rattle.meaning.specs.Fields.{fits}
-use Rattle.meaning.specs.Front.{front_in, iopb_bytes_of}
+use Rattle.meaning.specs.Fields.{all_in}
 use Rattle.meaning.specs.declared.Record.{Record}
 use Rattle.meaning.specs.Sizes.{sizes_wrong}
 use Rattle.meaning.specs.Command.{writes, transfers, steps_of, finished, no_record}
@@ -34,7 +33,7 @@ bad_transfer d s r =
 -- Spoiled 2 and 3: a record whose IOPB is not all in memory, or with more steps taken than it has, or that is such a transfer
 unfoldable pub bad_record : Drives → Store → Record → Bool
 unfolding bad_transfer steps_of
-bad_record d s r = not (fits (iopb_bytes_of (front_in r)) (s memory) r.iopb) || ltb (steps_of r) r.taken || transfers r && bad_transfer d s r
+bad_record d s r = not (all_in (s memory) r.iopb) || ltb (steps_of r) r.taken || transfers r && bad_transfer d s r
 
 -- Spoiled 1: the table has over 32 commands, or a record in use is bad
 unfoldable pub spoiled : Drives → ℕ → State → Bool

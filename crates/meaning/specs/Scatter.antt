@@ -11,7 +11,7 @@ use Rattle.meaning.specs.State.{State, state_of}
 use Rattle.meaning.specs.Sizes.{sizes_wrong}
 use Rattle.meaning.specs.Links.{link_at, links_at}
 use Rattle.meaning.specs.Code.{copied_at, link_count, links_in, code_of, early_code, links_read}
-use Rattle.meaning.specs.Walk.{Chain, refused, accepted, at753, record_of, chain_at, filled}
+use Rattle.meaning.specs.Walk.{Chain, refused, accepted, record_of, chain_at, filled}
 use Rattle.meaning.specs.Command.{steps_of, finished}
 use Rattle.meaning.specs.Touch.{conflict}
 use Rattle.meaning.specs.Pick.{pick_number}
@@ -55,8 +55,8 @@ pick_in s (refused n) = 255
 pick_in s (accepted rs) = pick_number (drives false) (length rs) 1 (record { table = filled (accepted rs) no_records; store = s.store })
 
 abbrev pub answer : Asks → ℕ
-answer (code_on protected vs) = (get_or (commands_in (chain_at (drives protected) (at753 0) (with_bytes vs))) 0 no_command).code
-answer (pick_one vs) = pick_in (with_bytes vs) (chain_at (drives false) (at753 0) (with_bytes vs))
+answer (code_on protected vs) = (get_or (commands_in (chain_at (drives protected) 0 (with_bytes vs))) 0 no_command).code
+answer (pick_one vs) = pick_in (with_bytes vs) (chain_at (drives false) 0 (with_bytes vs))
 
 pub record Example : Type 0 where
   pub asks : Asks

@@ -11,7 +11,7 @@ use Rattle.meaning.specs.Ranges.{crosses}
 use Rattle.meaning.specs.State.{state_of}
 use Rattle.meaning.specs.Sizes.{sizes_wrong}
 use Rattle.meaning.specs.Code.{copied_at, link_count, links_in, code_of, fitted_of, early_code, links_read}
-use Rattle.meaning.specs.Walk.{Chain, refused, accepted, at753, record_of, chain_at, filled}
+use Rattle.meaning.specs.Walk.{Chain, refused, accepted, record_of, chain_at, filled}
 use Rattle.meaning.specs.Command.{steps_of, finished, no_record}
 use Rattle.meaning.specs.Touch.{conflict}
 use Rattle.meaning.specs.Step.{closing}
@@ -46,7 +46,7 @@ example_deck =
 
 -- the chain that a deck lays in the bench's memory
 abbrev pub chain_of : List ℕ → Chain
-chain_of b = chain_at (drives_of (bench_drives b)) (at753 0) (bench_state b)
+chain_of b = chain_at (drives_of (bench_drives b)) 0 (bench_state b)
 
 -- the commands of a chain, none where the walk refuses, and what stands for the first one then: its code is one that no command gets
 abbrev pub commands_in : Chain → List Record
@@ -54,7 +54,7 @@ commands_in (refused n) = []
 commands_in (accepted rs) = rs
 
 abbrev pub no_command : Record
-no_command = record { iopb = 0; address = 0; sector = 0; taken = 0; ranges = 0; front = 0; count = 0; unit = 0; byte0 = 0; code = 255; fitted = 0; list = [] }
+no_command = record { iopb = 0; address = 0; sector = 0; taken = 0; ranges = 0; count = 0; unit = 0; byte0 = 0; code = 255; fitted = 0; list = [] }
 
 -- the number of a first pick at place p on a deck's chain; 255 where there is none
 abbrev pub pick_in : List ℕ → ℕ → Chain → ℕ

@@ -5,9 +5,6 @@ use Rattle.meaning.specs.Store.{memory, disk, Store, Area, area, Move, copy, pos
 use Rattle.meaning.specs.Sectors.{sector_bytes, on_disk}
 use Rattle.meaning.specs.Drives.{Drives}
 use Rattle.meaning.specs.declared.Record.{Record}
-use Rattle.meaning.specs.declared.FrontEnd.{FrontEnd}
-use Rattle.meaning.specs.declared.FrontEnd.TheVariants.{Xylogics753, Xylogics431}
-use Rattle.meaning.specs.Front.{front_in, status_at}
 use Rattle.meaning.specs.Command.{reads, writes, steps_of}
 use Rattle.meaning.specs.Pieces.{Piece, pieces_of}
 use Rattle.meaning.specs.Touch.{data_bytes}
@@ -47,26 +44,14 @@ drive_status d = cond d.protected 0x13 0x03
 
 -- Step 7 to 9: byte 1 is the code; byte 2 goes by the command's own unit; byte 3 is how many sectors would have fitted, as the record has it,
 -- whatever the code
-abbrev pub closing753 : Drives → Record → List ℕ
-closing753 d r = closing_byte0 r ∷ r.code ∷ drive_status (d.on r.unit) ∷ r.fitted ∷ []
-
--- Multibus 18: byte 4 of a 431's IOPB has DONE and the controller type, 5 in bits 4-1, and ERSM exactly if the code is not 00; byte 5 is the
--- code
-abbrev pub closing431 : Record → List ℕ
-closing431 r = (0x0B + cond (eqb r.code 0) 0 128) ∷ r.code ∷ []
-
--- Step 5, Multibus 17: a close writes the status bytes of the command's own IOPB
-abbrev pub closing_by : FrontEnd → Drives → Record → List ℕ
-closing_by Xylogics753 d r = closing753 d r
-closing_by Xylogics431 d r = closing431 r
-
 unfoldable pub closing : Drives → Record → List ℕ
 unfolding closing_byte0
-closing d r = closing_by (front_in r) d r
+closing d r = closing_byte0 r ∷ r.code ∷ drive_status (d.on r.unit) ∷ r.fitted ∷ []
 
+-- Step 5: a close writes bytes 0 to 3 of the command's own IOPB
 unfoldable pub close_move : Drives → Record → List Move
 unfolding closing
-close_move d r = post memory (status_at r) (closing d r) ∷ []
+close_move d r = post memory r.iopb (closing d r) ∷ []
 
 -- Step 4: the last step also closes the command, after its sector has moved
 unfoldable pub step_moves : Drives → Record → List Move
@@ -87,7 +72,6 @@ with_taken n r =
       sector = r.sector;
       taken = n;
       ranges = r.ranges;
-      front = r.front;
       count = r.count;
       unit = r.unit;
       byte0 = r.byte0;

@@ -3,7 +3,6 @@ use Rattle.std.specs.Prelude.{Bool, ◌||◌, cond, List, [], ◌∷◌, ◌++�
 use Rattle.meaning.specs.Ranges.{Range, bytes, sectors_of, meet}
 use Rattle.meaning.specs.Links.{ranges_of}
 use Rattle.meaning.specs.declared.Record.{Record}
-use Rattle.meaning.specs.Front.{front_in, status_many, status_at}
 use Rattle.meaning.specs.Command.{reads, writes, listed, links_of}
 
 pub record Touched : Type 0 where
@@ -14,9 +13,9 @@ pub record Touched : Type 0 where
 abbrev pub data_bytes : Record → List Range
 data_bytes r = ranges_of (listed r) r.address r.count (links_of r)
 
--- its status bytes, by its front end, and its sectors, which are those of its own unit
+-- its four status bytes, and its sectors, which are those of its own unit
 abbrev pub status_bytes : Record → Range
-status_bytes r = bytes (status_at r) (status_many (front_in r))
+status_bytes r = bytes r.iopb 4
 
 abbrev pub sectors : Record → Range
 sectors r = sectors_of r.unit r.sector r.count

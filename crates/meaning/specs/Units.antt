@@ -64,7 +64,7 @@ command unit byte0 sector count =
 -- a record of one sector, sector 0 of a unit, with code 00: its IOPB, its data address and its byte 0
 abbrev pub accepted : ℕ → ℕ → ℕ → ℕ → Record
 accepted unit iopb address byte0 =
-    record { iopb = iopb; address = address; sector = 0; taken = 0; ranges = 0; front = 0; count = 1; unit = unit; byte0 = byte0; code = 0; fitted = 0; list = no_links }
+    record { iopb = iopb; address = address; sector = 0; taken = 0; ranges = 0; count = 1; unit = unit; byte0 = byte0; code = 0; fitted = 0; list = no_links }
 
 pub data Asks : Type 0 where
   -- the code of a command and status byte 2 after its close

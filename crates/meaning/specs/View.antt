@@ -2,10 +2,6 @@
 use Rattle.std.specs.Prelude.{ℕ, ◌%◌, Bool, not, cond, List, [], ◌∷◌, eqb}
 use Rattle.meaning.specs.First.{first_of, ◌↝◌}
 use Rattle.meaning.specs.declared.Iopb.{Iopb}
-use Rattle.meaning.specs.declared.Iopb431.{Iopb431}
-use Rattle.meaning.specs.declared.FrontEnd.TheVariants.{Xylogics431}
-use Rattle.meaning.specs.Front.{iopb_bytes_of}
-use Rattle.meaning.specs.SisterFields as sister
 use Rattle.meaning.specs.Fields as iopb
 
 -- what a viewer keeps, in plain lists and numbers
@@ -14,17 +10,14 @@ pub record Seen : Type 0 where
   pub at : ℕ
   pub number : ℕ
 
--- its making answers 2 for an odd address, then 3 for n bytes not all in memory; n is thirty (View 3 to 5)
-abbrev pub number_for : ℕ → List ℕ → ℕ → ℕ
-number_for n m a =
+-- its making answers 2 for an odd address, then 3 for thirty bytes not all in memory (View 3 to 5)
+unfoldable pub made_number : List ℕ → ℕ → ℕ
+made_number m a =
     first_of
     (eqb (a % 2) 1 ↝ 2
-    ∷ not (iopb.fits n m a) ↝ 3
+    ∷ not (iopb.all_in m a) ↝ 3
     ∷ [])
     0
-
-unfoldable pub made_number : List ℕ → ℕ → ℕ
-made_number m a = number_for iopb.iopb_bytes m a
 
 -- the making is not refused
 abbrev pub viewable : List ℕ → ℕ → Bool
@@ -61,37 +54,4 @@ view_of m a =
       unit = shown iopb.unit m a;
       head = shown iopb.head m a;
       sector = shown iopb.sector m a;
-    }
-
--- ---- a 431's IOPB (Multibus 20 and 21)
-
--- n is twenty-four here
-unfoldable pub made_number431 : List ℕ → ℕ → ℕ
-made_number431 m a = number_for (iopb_bytes_of Xylogics431) m a
-
--- a field, which is 0 where the number is not
-abbrev pub shown431 : (List ℕ → ℕ → ℕ) → List ℕ → ℕ → ℕ
-shown431 f m a = cond (eqb (made_number431 m a) 0) (f m a) 0
-
-unfoldable pub view_of431 : List ℕ → ℕ → Iopb431
-unfolding made_number431
-view_of431 m a =
-    record {
-      next_address = shown431 sister.next_word m a;
-      cylinder = shown431 sister.cylinder m a;
-      count = shown431 sister.count m a;
-      data_address = shown431 sister.data_word m a;
-      data_relocation = shown431 sister.data_relocation m a;
-      number = made_number431 m a;
-      device = shown431 sister.device m a;
-      unit = shown431 sister.unit m a;
-      chen = shown431 sister.chen m a;
-      command = shown431 sister.command m a;
-      ersm = shown431 sister.ersm m a;
-      controller = shown431 sister.controller m a;
-      done = shown431 sister.done m a;
-      completion = shown431 sister.completion m a;
-      head = shown431 sister.head m a;
-      sector = shown431 sister.sector m a;
-      subfunction = shown431 sister.subfunction m a;
     }

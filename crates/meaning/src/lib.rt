@@ -47,13 +47,6 @@ pub struct Placed {
     pub number: u8,
 }
 
-// Whose IOPBs a chain is made of: those of a 753, or of its Multibus sister, the 431.
-#[derive(Drop)]
-pub enum FrontEnd {
-    Xylogics753,
-    Xylogics431,
-}
-
 // What the walk copies from an IOPB before anything moves.
 #[derive(Drop)]
 pub struct Copied {
@@ -71,13 +64,6 @@ pub struct Copied {
     pub address: u32,
     // the next IOPB's address
     pub next: u32,
-}
-
-// What the walk copies from a 431's IOPB: the device type; and its command, as one of a 753.
-#[derive(Drop)]
-pub struct Copied431 {
-    pub device: u8,
-    pub command: Copied,
 }
 
 // What a test for an end answers: whether the end is passed, and how many whole sectors would have fitted, from the same start on.
@@ -111,14 +97,12 @@ pub struct Record {
     // steps taken
     pub taken: u32,
     // how many ranges its link list has; 0 where it has no list
-    pub ranges: u8,
-    // which front end its IOPB is of: 1 for the 431's, every other number for the 753's
-    pub front: u8,
+    pub ranges: u16,
     // how many sectors
     pub count: u16,
     // the unit whose drive it goes to
     pub unit: u8,
-    // the copied byte with the command in it: byte 0, of a 431's IOPB byte 1
+    // the copied byte 0
     pub byte0: u8,
     // the code that its close will post, and how many sectors would have fitted, which it posts beside it
     pub code: u8,
@@ -195,28 +179,4 @@ pub struct Iopb {
     pub unit: u8,
     pub head: u8,
     pub sector: u8,
-}
-
-// One IOPB of a 431 as a viewer shows it: the number of its making, and every field, each 0 where that number is not. Addresses are the words
-// as they stand.
-#[repr(C)]
-#[derive(Drop)]
-pub struct Iopb431 {
-    pub next_address: u16,
-    pub cylinder: u16,
-    pub count: u16,
-    pub data_address: u16,
-    pub data_relocation: u16,
-    pub number: u8,
-    pub device: u8,
-    pub unit: u8,
-    pub chen: u8,
-    pub command: u8,
-    pub ersm: u8,
-    pub controller: u8,
-    pub done: u8,
-    pub completion: u8,
-    pub head: u8,
-    pub sector: u8,
-    pub subfunction: u8,
 }

@@ -8,7 +8,7 @@ use Rattle.meaning.specs.Drives.{Drives}
 use Rattle.meaning.specs.declared.Record.{Record}
 use Rattle.meaning.specs.declared.Walked.{Walked}
 use Rattle.meaning.specs.State.{State, most_commands}
-use Rattle.meaning.specs.Walk.{Entry, Chain, refused, accepted, answered, filled, chain_at, walk_reply, walk_leaves, WalkGives}
+use Rattle.meaning.specs.Walk.{Chain, refused, accepted, answered, filled, chain_at, walk_reply, walk_leaves, WalkGives}
 use Rattle.meaning.specs.Run.{chain_steps, steps_left, run_number}
 use Rattle.meaning.proofs.Numbers.{passed_run}
 use Rattle.meaning.proofs.Still as still
@@ -19,7 +19,7 @@ pub still_accepted : StillAccepted
 still_accepted = still.still_accepted
 
 -- what an accepted walk gives, by what its chain comes to
-module _ (d : Drives) (start : Entry) (s : State) where
+module _ (d : Drives) (start : ℕ) (s : State) where
   Fits : Walked → List Record → Type 0
   Fits w t =
       (run_number d w.commands (record { table = t; store = s.store }) ≡ 0)

@@ -6,12 +6,10 @@ use Prim.Native.Nat.{ℕ, ◌+◌, ◌-◌, ◌*◌, ◌≤◌, ◌<◌}
 use native.Mathlib.Omega.{arith}
 use mathlib.Core.Bool.{Bool, true, false, ◌||◌, cond}
 use mathlib.Core.List.{List, [], ◌∷◌, ◌++◌, map}
-use lib.ListN.{length}
 use lib.Dec.{eqb}
 use borrow.Author.Tests.{ltb-false}
 use Rattle.meaning.specs.Drives.{Drives}
 use Rattle.meaning.specs.declared.Record.{Record}
-use Rattle.meaning.specs.Front.{front_in, status_many, status_at}
 use Rattle.meaning.specs.Each.{some_of}
 use Rattle.meaning.specs.Store.{memory, disk, same, Store, Area, area, Move, copy, post}
 use Rattle.meaning.specs.Sectors.{sector_bytes}
@@ -20,7 +18,6 @@ use Rattle.meaning.specs.Command.{reads, writes, steps_of, remaining}
 use Rattle.meaning.specs.Pieces.{Piece, piece_of, pieces_of}
 use Rattle.meaning.specs.Touch.{Touched, data_bytes, status_bytes, sectors, by_read, by_write, touched, touched_by, disturbs, conflict}
 use Rattle.meaning.specs.Step.{pieces_at, in_memory, in_sector, sector_move, closing, close_move, step_moves, step, sector_move_by}
-use Rattle.meaning.proofs.Front.{closing_many}
 use Rattle.meaning.proofs.Means.{Means, holds, fails, means_eq}
 use Rattle.meaning.proofs.Rows.{or-false, and_second}
 use Rattle.meaning.proofs.All.{All, all_append, all_map}
@@ -128,8 +125,8 @@ pieces_lie r k (x ∷ rs) b h m =
           (pieces_of rs (b + x.many) lo hi) (pieces_lie r k rs (b + x.many) h m.1),
     )
 
-status_lies : (d : Drives) (r : Record) → Lies (area memory (status_at r) (length (closing d r))) (status_bytes r)
-status_lies d r = among (status_at r) (length (closing d r)) (status_at r) (status_many (front_in r)) (omega arith) (omega (arith, closing_many d r))
+status_lies : (r : Record) → Lies (area memory r.iopb 4) (status_bytes r)
+status_lies r = among r.iopb 4 r.iopb 4 (omega arith) (omega arith)
 
 -- moves of pieces, if each keeps to it
 all_moves : (t : Touched) (v : Piece → Move) (P : Piece → Type 0) → ((p : Piece) → P p → KeepsTo t (v p)) → (ps : List Piece) → All P ps → All (KeepsTo t) (map v ps)
@@ -147,10 +144,11 @@ sector_keeps false true r k h =
     (pieces_at r k) (pieces_lie r k (data_bytes r) 0 h (data_memory r))
 sector_keeps false false r k h = tt
 
-close_keeps : (rd wr : Bool) (d : Drives) (r : Record) → KeepsTo (touched_by rd wr r) (post memory (status_at r) (closing d r))
-close_keeps true wr d r = record { written = inside_right (area memory (status_at r) (length (closing d r))) (data_bytes r) (here (status_lies d r)); read = tt }
-close_keeps false true d r = record { written = there (here (status_lies d r)); read = tt }
-close_keeps false false d r = record { written = here (status_lies d r); read = tt }
+close_keeps : (rd wr : Bool) (d : Drives) (r : Record) → KeepsTo (touched_by rd wr r) (post memory r.iopb (closing d r))
+unfolding closing
+close_keeps true wr d r = record { written = inside_right (area memory r.iopb 4) (data_bytes r) (here (status_lies r)); read = tt }
+close_keeps false true d r = record { written = there (here (status_lies r)); read = tt }
+close_keeps false false d r = record { written = here (status_lies r); read = tt }
 
 all-cond : (P : Move → Type 0) (b : Bool) (vs : List Move) → All P vs → All P (cond b vs [])
 all-cond P true vs h = h

@@ -5,7 +5,7 @@ use Rattle.meaning.specs.declared.Record.{Record}
 use Rattle.meaning.specs.declared.Walked.{Walked}
 use Rattle.meaning.specs.declared.Ran.{Ran}
 use Rattle.meaning.specs.State.{State}
-use Rattle.meaning.specs.Walk.{Entry, WalkGives}
+use Rattle.meaning.specs.Walk.{WalkGives}
 use Rattle.meaning.specs.Run.{chain_steps, steps_left, all_finished, run_number, as_written, RunGives}
 use Rattle.order.specs.States.{rest}
 use Rattle.order.specs.Calls.{Call, after_calls, MakeAll}
@@ -28,7 +28,7 @@ AnyCallsThenRest =
 -- Against the whole chain: from an accepted walk on, the rest is what as many steps as written come to as the chain's commands have.
 abbrev pub AnyCallsThenRestOfChain : Type 0
 AnyCallsThenRestOfChain =
-    (d : Drives) (start : Entry) (s : State) (w : Walked) (t : List Record) (cs : List Call) (k : ℕ) (s₁ : State)
+    (d : Drives) (start : ℕ) (s : State) (w : Walked) (t : List Record) (cs : List Call) (k : ℕ) (s₁ : State)
     → WalkGives d start s w t
     → w.number ≡ 0
     → let walked : State = record { table = t; store = s.store } in

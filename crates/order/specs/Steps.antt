@@ -5,7 +5,7 @@ use Rattle.meaning.specs.declared.Record.{Record}
 use Rattle.meaning.specs.declared.Walked.{Walked}
 use Rattle.meaning.specs.declared.Ran.{Ran}
 use Rattle.meaning.specs.State.{State}
-use Rattle.meaning.specs.Walk.{Entry, WalkGives}
+use Rattle.meaning.specs.Walk.{WalkGives}
 use Rattle.meaning.specs.Run.{chain_steps, steps_left, all_finished, run_number, by_picks, as_written, RunGives}
 use Rattle.order.specs.Calls.{Call, MakeAll}
 
@@ -37,7 +37,7 @@ CallsAddUp =
 -- the accepted steps that finish a chain number exactly the sum of the steps of its commands, in whatever calls they are taken
 abbrev pub ChainAddsUp : Type 0
 ChainAddsUp =
-    (d : Drives) (start : Entry) (s : State) (w : Walked) (t : List Record) (cs : List Call) (k : ℕ) (s' : State)
+    (d : Drives) (start : ℕ) (s : State) (w : Walked) (t : List Record) (cs : List Call) (k : ℕ) (s' : State)
     → WalkGives d start s w t
     → w.number ≡ 0
     → MakeAll d w.commands cs (record { table = t; store = s.store }) k s'

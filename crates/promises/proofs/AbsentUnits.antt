@@ -16,7 +16,7 @@ use Rattle.meaning.specs.State.{most_commands, state_in}
 use Rattle.meaning.specs.Sizes.{unit_wrong, images_wrong, store_wrong, sizes_wrong}
 use Rattle.meaning.specs.Look.{look_number}
 use Rattle.meaning.specs.Code.{odd}
-use Rattle.meaning.specs.Walk.{Entry, first_at, Chain, refused, follow, chain_at, answered, filled, walk_reply, walk_leaves}
+use Rattle.meaning.specs.Walk.{Chain, refused, follow, chain_at, answered, filled, walk_reply, walk_leaves}
 use Rattle.meaning.specs.Pick.{bad_transfer, bad_record, spoiled, pick_number}
 use Rattle.meaning.specs.Run.{run_number}
 use Rattle.promises.specs.AbsentUnits.{lent_for, AbsentDriveHasNoSay, SameStore, AbsentImageHasNoSay}
@@ -76,10 +76,10 @@ module _ (d : Drives) (s s' : Store) (same : SameStore d s s') where
     unfolding sizes_wrong
     sizes_same = ap (λ (b : Bool). b || ltb (length t) most_commands) store_same
 
-    chain_same : (start : Entry) → chain_at d start (state_in s t) ≡ chain_at d start (state_in s' t)
+    chain_same : (start : ℕ) → chain_at d start (state_in s t) ≡ chain_at d start (state_in s' t)
     unfolding chain_at
     chain_same start =
-        ap₂ (λ (b : Bool) (m : List ℕ). cond b (refused 1) (cond (odd (first_at start)) (refused 2) (follow most_commands start.front start.relocation m d [] (first_at start)))) sizes_same same.bytes
+        ap₂ (λ (b : Bool) (m : List ℕ). cond b (refused 1) (cond (odd start) (refused 2) (follow most_commands m d [] start))) sizes_same same.bytes
 
     bad_same : (r : Record) → bad_record d s r ≡ bad_record d s' r
     unfolding bad_record bad_transfer

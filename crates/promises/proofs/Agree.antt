@@ -17,14 +17,12 @@ use Rattle.meaning.specs.Store.{memory, disk, Store, get}
 use Rattle.meaning.specs.State.{State, most_commands}
 use Rattle.meaning.specs.Sectors.{sector_bytes, largest_sector, on_disk, image_right}
 use Rattle.meaning.specs.Ends.{drive_end}
-use Rattle.meaning.specs.declared.FrontEnd.TheVariants.{Xylogics753}
-use Rattle.meaning.specs.Front.{front_in, iopb_bytes_of}
-use Rattle.meaning.specs.Fields.{iopb_bytes, fits, all_in}
+use Rattle.meaning.specs.Fields.{all_in}
 use Rattle.meaning.specs.Sizes.{memory_limit, unit_wrong, images_wrong, store_wrong, sizes_wrong}
 use Rattle.meaning.specs.Look.{look_number, look_part, looked_part}
 use Rattle.meaning.specs.Links.{most_links, bytes_in, padded}
 use Rattle.meaning.specs.Code.{copied_at, odd, outside, first_sector, links_in, list_outside, command_rows, code_of, fitted_of, early_code, links_read}
-use Rattle.meaning.specs.Walk.{at753, record_of, shares, goes_on, Chain, refused, accepted, follow, chain_at, answered, filled, walk_reply, walk_leaves}
+use Rattle.meaning.specs.Walk.{record_of, shares, goes_on, Chain, refused, accepted, follow, chain_at, answered, filled, walk_reply, walk_leaves}
 use Rattle.meaning.specs.Command.{writes, transfers, steps_of}
 use Rattle.meaning.specs.Touch.{data_bytes}
 use Rattle.meaning.specs.Pick.{bad_transfer, bad_record, spoiled, pick_number, step_at, picked}
@@ -40,11 +38,11 @@ shown_chain (refused k) = refused k
 shown_chain (accepted rs) = accepted (map shown rs)
 
 -- what is asked of the earlier records is their place in memory
-same_shares : (a : ℕ) (rs qs : List Record) → map shown rs ≡ map shown qs → some_of (λ r. shares iopb_bytes r.iopb a) rs ≡ some_of (λ r. shares iopb_bytes r.iopb a) qs
+same_shares : (a : ℕ) (rs qs : List Record) → map shown rs ≡ map shown qs → some_of (λ r. shares r.iopb a) rs ≡ some_of (λ r. shares r.iopb a) qs
 same_shares a rs qs h = sym (some_map shown test rs) ∙ ap (some_of test) h ∙ some_map shown test qs
   where
     test : Record → Bool
-    test r = shares iopb_bytes r.iopb a
+    test r = shares r.iopb a
 
 at_iopb_lem : (x z : Bool) (y y' : Bool) (c c' : Chain) (rs qs : List Record) → y ≡ y' → map shown rs ≡ map shown qs → shown_chain c ≡ shown_chain c'
     → shown_chain (cond x (refused 3) (cond y (refused 4) (cond z c (accepted rs))))
@@ -101,7 +99,7 @@ module _ (d e : Drives) (agree : Agree d e) where
   bad_same : (s : Store) (r : Record) → bad_record d s r ≡ bad_record e s r
   unfolding bad_record bad_transfer
   bad_same s r =
-      ap (λ (b : Bool). not (fits (iopb_bytes_of (front_in r)) (s memory) r.iopb) || ltb (steps_of r) r.taken || transfers r && b)
+      ap (λ (b : Bool). not (all_in (s memory) r.iopb) || ltb (steps_of r) r.taken || transfers r && b)
       (own
       (λ v.
       not v.present
@@ -178,7 +176,6 @@ module _ (d e : Drives) (agree : Agree d e) where
           sector = sector_same c (eqb c.unit 0) refl j;
           taken = 0;
           ranges = length (read_same c m j);
-          front = 0;
           count = c.count;
           unit = c.unit;
           byte0 = c.byte0;
@@ -192,7 +189,7 @@ module _ (d e : Drives) (agree : Agree d e) where
     one_more rs qs r q h k = map-append shown rs (r ∷ []) ∙ (λ j. h j ++ k j ∷ []) ∙ sym (map-append shown qs (q ∷ []))
 
     follow_same : (left : ℕ) (m : List ℕ) (rs qs : List Record) (a : ℕ) → map shown rs ≡ map shown qs
-        → shown_chain (follow left Xylogics753 0 m d rs a) ≡ shown_chain (follow left Xylogics753 0 m e qs a)
+        → shown_chain (follow left m d rs a) ≡ shown_chain (follow left m e qs a)
     unfolding follow
     follow_same zero m rs qs a h = refl
     follow_same (suc left) m rs qs a h =
@@ -200,10 +197,10 @@ module _ (d e : Drives) (agree : Agree d e) where
         let more = one_more rs qs (record_of c a (d.on c.unit) m) (record_of c a (e.on c.unit) m) h (record_same c a m) in
         at_iopb_lem (not (all_in m a)) (goes_on c) _ _ _ _ _ _ (same_shares a rs qs h) more (follow_same left m _ _ c.next more)
 
-    chain_same : (start : ℕ) (s : State) → shown_chain (chain_at d (at753 start) s) ≡ shown_chain (chain_at e (at753 start) s)
+    chain_same : (start : ℕ) (s : State) → shown_chain (chain_at d start s) ≡ shown_chain (chain_at e start s)
     unfolding chain_at
     chain_same start s =
-        ap (λ (b : Bool). shown_chain (cond b (refused 1) (cond (odd start) (refused 2) (follow most_commands Xylogics753 0 (s.store memory) d [] start)))) (sizes_same s)
+        ap (λ (b : Bool). shown_chain (cond b (refused 1) (cond (odd start) (refused 2) (follow most_commands (s.store memory) d [] start)))) (sizes_same s)
         ∙ go (sizes_wrong e s) (odd start) _ _ (follow_same most_commands (s.store memory) [] [] start refl)
       where
         go : (x y : Bool) (c c' : Chain) → shown_chain c ≡ shown_chain c'
@@ -212,13 +209,13 @@ module _ (d e : Drives) (agree : Agree d e) where
         go false true c c' h = refl
         go false false c c' h = h
 
-    pub walk_same : (start : ℕ) (s : State) → walk_reply d (at753 start) s ≡ walk_reply e (at753 start) s
+    pub walk_same : (start : ℕ) (s : State) → walk_reply d start s ≡ walk_reply e start s
     unfolding walk_reply
-    walk_same start s = sym (answered_shown (chain_at d (at753 start) s)) ∙ ap answered (chain_same start s) ∙ answered_shown (chain_at e (at753 start) s)
+    walk_same start s = sym (answered_shown (chain_at d start s)) ∙ ap answered (chain_same start s) ∙ answered_shown (chain_at e start s)
 
-    pub leaves_same : (start : ℕ) (s : State) → map shown (walk_leaves d (at753 start) s) ≡ map shown (walk_leaves e (at753 start) s)
+    pub leaves_same : (start : ℕ) (s : State) → map shown (walk_leaves d start s) ≡ map shown (walk_leaves e start s)
     unfolding walk_leaves
     leaves_same start s =
-        filled_shown (chain_at d (at753 start) s) s.table
+        filled_shown (chain_at d start s) s.table
         ∙ ap (λ (c : Chain). shown_table c s.table) (chain_same start s)
-        ∙ sym (filled_shown (chain_at e (at753 start) s) s.table)
+        ∙ sym (filled_shown (chain_at e start s) s.table)

@@ -129,8 +129,8 @@ module _ (d : Drive) (present : d.present ≡ true) where
         bytes = step_but_third (today d) (base d);
         others = closing_others (today d) (base d);
         same = λ r h. closing_same (today d) (base d) r (same_mark r.unit h);
-        now_03 = λ r of n. rw (of, today_mark r.unit n);
-        before_13 = λ r of e. rw (of, e);
+        now_03 = λ r n. rw (today_mark r.unit n);
+        before_13 = λ r e. rw e;
       }
 
 pub alone_as_before : AloneAsBefore

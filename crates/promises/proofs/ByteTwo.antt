@@ -3,7 +3,6 @@
 use mathlib.Core.Path.{◌≡◌, refl, sym, ap, ◌∙◌}
 use mathlib.Core.Logic.{◌≢◌}
 use Prim.Native.Nat.{ℕ, zero, suc, ◌+◌}
-use native.Mathlib.Nat.{add-zero}
 use native.Mathlib.Omega.{arith}
 use mathlib.Core.Bool.{Bool, true, false, cond}
 use mathlib.Core.List.{List, [], ◌∷◌, ◌++◌}
@@ -11,13 +10,10 @@ use lib.ListN.{get_or, set}
 use lib.Seq.{sets, get_or-set_other}
 use lib.Dec.{eqb}
 use Rattle.meaning.specs.declared.Record.{Record}
-use Rattle.meaning.specs.declared.FrontEnd.{FrontEnd}
-use Rattle.meaning.specs.declared.FrontEnd.TheVariants.{Xylogics753, Xylogics431}
-use Rattle.meaning.specs.Front.{front_in, status_from, status_at}
 use Rattle.meaning.specs.Drives.{Drives}
 use Rattle.meaning.specs.Store.{Space, memory, Store, put, Move, post, move, moves}
 use Rattle.meaning.specs.Command.{steps_of}
-use Rattle.meaning.specs.Step.{sector_move, closing_byte0, drive_status, closing_by, closing, close_move, step_moves, step}
+use Rattle.meaning.specs.Step.{sector_move, closing_byte0, drive_status, closing, close_move, step_moves, step}
 use Rattle.meaning.proofs.Means.{Means, holds, fails}
 use Rattle.meaning.proofs.Overwrite.{sets_comm}
 use Rattle.meaning.proofs.Ranges.{means_same}
@@ -26,26 +22,18 @@ use Rattle.meaning.proofs.Spaces.{moves_append}
 module _ (d e : Drives) (r : Record) where
   pub closing_same : (d.on r.unit).protected ≡ (e.on r.unit).protected → closing d r ≡ closing e r
   unfolding closing
-  closing_same h = go (front_in r)
-    where
-      go : (f : FrontEnd) → closing_by f d r ≡ closing_by f e r
-      go Xylogics753 = ap (λ (b : Bool). closing_byte0 r ∷ r.code ∷ cond b 0x13 0x03 ∷ r.fitted ∷ []) h
-      go Xylogics431 = refl
+  closing_same h = ap (λ (b : Bool). closing_byte0 r ∷ r.code ∷ cond b 0x13 0x03 ∷ r.fitted ∷ []) h
 
   pub step_same : (s : Store) → (d.on r.unit).protected ≡ (e.on r.unit).protected → step d r s ≡ step e r s
   unfolding step step_moves close_move
-  step_same s h = ap (λ (l : List ℕ). moves (sector_move r r.taken ++ cond (eqb (r.taken + 1) (steps_of r)) (post memory (status_at r) l ∷ []) []) s) (closing_same h)
+  step_same s h = ap (λ (l : List ℕ). moves (sector_move r r.taken ++ cond (eqb (r.taken + 1) (steps_of r)) (post memory r.iopb l ∷ []) []) s) (closing_same h)
 
   pub closing_others : (j : ℕ) → j ≢ 2 → get_or (closing d r) j 0 ≡ get_or (closing e r) j 0
   unfolding closing
-  closing_others j n = go (front_in r) j n
-    where
-      go : (f : FrontEnd) (j : ℕ) → j ≢ 2 → get_or (closing_by f d r) j 0 ≡ get_or (closing_by f e r) j 0
-      go Xylogics753 zero n = refl
-      go Xylogics753 (suc zero) n = refl
-      go Xylogics753 (suc (suc zero)) n = absurd (n refl)
-      go Xylogics753 (suc (suc (suc j))) n = refl
-      go Xylogics431 j n = refl
+  closing_others zero n = refl
+  closing_others (suc zero) n = refl
+  closing_others (suc (suc zero)) n = absurd (n refl)
+  closing_others (suc (suc (suc j))) n = refl
 
 -- four bytes laid at i, of which the third is v or w
 third_alone : (l : List ℕ) (i a b v w f x : ℕ) → x ≢ i + 2 → get_or (sets l i (a ∷ b ∷ v ∷ f ∷ [])) x 0 ≡ get_or (sets l i (a ∷ b ∷ w ∷ f ∷ [])) x 0
@@ -84,11 +72,6 @@ step_but_third d e r s p x n =
     between : Store
     between = moves (sector_move r r.taken) s
 
-    -- of a 431 the two closes are the same
-    by_front : (f : FrontEnd) → ¬ ((p ≡ memory) × (x ≡ r.iopb + 2)) → get_or (put memory (r.iopb + status_from f) (closing_by f d r) between p) x 0 ≡ get_or (put memory (r.iopb + status_from f) (closing_by f e r) between p) x 0
-    by_front Xylogics753 k = rw (add-zero r.iopb) (put_third between p r.iopb (closing_byte0 r) r.code (drive_status (d.on r.unit)) (drive_status (e.on r.unit)) r.fitted x k)
-    by_front Xylogics431 k = refl
-
     go : (b : Bool) → get_or (moves (closes d b) between p) x 0 ≡ get_or (moves (closes e b) between p) x 0
-    go true = by_front (front_in r) n
+    go true = put_third between p r.iopb (closing_byte0 r) r.code (drive_status (d.on r.unit)) (drive_status (e.on r.unit)) r.fitted x n
     go false = refl

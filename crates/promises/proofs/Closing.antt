@@ -1,8 +1,7 @@
 -- The four bytes of a close, bit by bit: byte 0 is the copied byte 0 with bits 7 and 6 made anew.
 use mathlib.Core.Path.{◌≡◌, refl, sym, ◌∙◌}
-use mathlib.Core.Logic.{◌↔◌, ◌≢◌, ◌⊎◌, inl, inr}
+use mathlib.Core.Logic.{◌↔◌, ◌≢◌}
 use Prim.Native.Nat.{ℕ, zero, suc, ◌+◌, ◌*◌, ◌%◌, ◌<◌}
-use native.Mathlib.Nat.{add-zero}
 use native.Mathlib.Omega.{arith}
 use mathlib.Core.Bool.{Bool, true, false, cond}
 use lib.ListN.{get_or}
@@ -11,16 +10,14 @@ use Rattle.meaning.specs.declared.LentDrives.{LentDrives}
 use Rattle.meaning.specs.Drives.{Drives, most_units, no_drive, drive_of, drives_of}
 use Rattle.meaning.specs.declared.Record.{Record}
 use Rattle.meaning.specs.Fields.{bit}
-use Rattle.meaning.specs.Store.{memory, Store}
-use Rattle.meaning.specs.Conditions.{Within}
+use Rattle.meaning.specs.Store.{memory}
 use Rattle.meaning.specs.Walk.{record_of}
-use Rattle.meaning.specs.Step.{closing_byte0, drive_status, closing753, closing431, closing, step}
+use Rattle.meaning.specs.Step.{closing_byte0, drive_status, closing, step}
 use Rattle.meaning.proofs.Means.{Means, holds, fails, means_iff, means_itself, means_lt, means_eq}
 use Rattle.promises.specs.AbsentUnits.{lent_for}
-use Rattle.promises.specs.Closing.{Of753, Of431, StatusBytes, ClosingBytes, StatusBytes431, ClosingBytes431, OthersStay431, ThereAndProtected, ByteTwoExactlyWhen, ByteThreeExactlyWhen}
+use Rattle.promises.specs.Closing.{StatusBytes, ClosingBytes, ThereAndProtected, ByteTwoExactlyWhen, ByteThreeExactlyWhen}
 use Rattle.promises.proofs.Fitted.{fitted_exactly_when}
-use Rattle.promises.specs.StepMoves.{MayStep, Last}
-use Rattle.promises.proofs.StepMoves.{no_memory, step_stays, step_moves_one}
+use Rattle.promises.proofs.StepMoves.{step_moves_one}
 
 -- bits 5 to 0 of b, 1 and e
 module _ (b e : ℕ) (small : e < 2) where
@@ -72,14 +69,17 @@ module _ (r : Record) where
       go false = refl
 
 -- bytes that agree with the close's
-module _ (d : Drives) (r : Record) (byte : ℕ → ℕ) (same : (j : ℕ) → j < 4 → byte j ≡ get_or (closing753 d r) j 0) where
+module _ (d : Drives) (r : Record) (byte : ℕ → ℕ) (same : (j : ℕ) → j < 4 → byte j ≡ get_or (closing d r) j 0) where
   byte_0 : byte 0 ≡ r.byte0 % 64 + 64 + 128 * errs_of r
+  unfolding closing
   byte_0 = same 0 (omega arith) ∙ closing_byte_0 r
 
   byte_2 : byte 2 ≡ drive_status (d.on r.unit)
+  unfolding closing
   byte_2 = same 2 (omega arith)
 
   status_bytes_lem : StatusBytes d r byte
+  unfolding closing
   status_bytes_lem =
       let small = errs_small r in
       record {
@@ -93,65 +93,8 @@ module _ (d : Drives) (r : Record) (byte : ℕ → ℕ) (same : (j : ℕ) → j 
         internal = same 3 (omega arith);
       }
 
--- where the bytes of the close come to lie
-posted_753 : (d : Drives) (r : Record) (s : Store) → Of753 r → MayStep d r s → Last r → (j : ℕ) → j < 4
-    → get_or (step d r s memory) (r.iopb + j) 0 ≡ get_or (closing753 d r) j 0
-unfolding closing
-posted_753 d r s of may last = rw (of, add-zero r.iopb) at ((step_moves_one d r s may).posted last)
-
-posted_431 : (d : Drives) (r : Record) (s : Store) → Of431 r → MayStep d r s → Last r → (j : ℕ) → j < 2
-    → get_or (step d r s memory) (r.iopb + 4 + j) 0 ≡ get_or (closing431 r) j 0
-unfolding closing
-posted_431 d r s of may last = rw of at ((step_moves_one d r s may).posted last)
-
 pub closing_bytes : ClosingBytes
-closing_bytes d r s of may last = status_bytes_lem d r (λ j. get_or (step d r s memory) (r.iopb + j) 0) (posted_753 d r s of may last)
-
--- ---- of a 431
-
-byte_4 : (r : Record) → Means (r.code ≡ 0) (eqb r.code 0) → (b : ℕ) → b ≡ 0x0B + cond (eqb r.code 0) 0 128 → (c : ℕ) → c ≡ r.code
-    → StatusBytes431 r (λ j. cond (eqb j 4) b c)
-byte_4 r means b is c code = go means is
-  where
-    go : {z : Bool} → Means (r.code ≡ 0) z → b ≡ 0x0B + cond z 0 128 → StatusBytes431 r (λ j. cond (eqb j 4) b c)
-    go (holds e) at =
-        record {
-          ersm = ((λ h. absurd (omega (arith, h, at))), λ n. absurd (n e));
-          unused = (omega (arith, at), omega (arith, at));
-          controller = omega (arith, at);
-          done = omega (arith, at);
-          well = λ _. at;
-          failed = λ n. absurd (n e);
-          code = code;
-        }
-    go (fails n) at =
-        record {
-          ersm = ((λ _. n), λ _. omega (arith, at));
-          unused = (omega (arith, at), omega (arith, at));
-          controller = omega (arith, at);
-          done = omega (arith, at);
-          well = λ e. absurd (n e);
-          failed = λ _. at;
-          code = code;
-        }
-
-pub closing_bytes_431 : ClosingBytes431
-closing_bytes_431 d r s of may last =
-    let at = posted_431 d r s of may last in
-    let fifth : r.iopb + 4 + 1 ≡ r.iopb + 5 = omega arith in
-    let fourth : r.iopb + 4 + 0 ≡ r.iopb + 4 = omega arith in
-    let b = rw fourth at (at 0 (omega arith)) in
-    let c = rw fifth at (at 1 (omega arith)) in
-    let k = byte_4 r (means_eq r.code 0) _ b _ c in
-    record { ersm = k.ersm; unused = k.unused; controller = k.controller; done = k.done; well = k.well; failed = k.failed; code = k.code }
-
-pub others_stay_431 : OthersStay431
-others_stay_431 d r s of j far f =
-    step_stays d r s memory (r.iopb + j) f (λ k. no_memory r.unit (sym k.1.0)) (λ p. clear far (rw of at p.1.1))
-  where
-    clear : (j < 4) ⊎ (5 < j) → Within (r.iopb + j) (r.iopb + 4) 2 → ⊥
-    clear (inl h) w = omega (arith, h, w.0, w.1)
-    clear (inr h) w = omega (arith, h, w.0, w.1)
+closing_bytes d r s may last = status_bytes_lem d r (λ j. get_or (step d r s memory) (r.iopb + j) 0) ((step_moves_one d r s may).posted last)
 
 -- the drive of a unit is protected exactly where one is lent for it that is there and protected: an absent unit counts as open
 means_protected : (l : LentDrives) (u : ℕ) → Means (ThereAndProtected l u) (drive_of l u).protected
@@ -165,8 +108,8 @@ means_protected l u = go (means_lt u most_units) (means_itself (lent_for l u).pr
     go (fails n) y = fails (λ h. n h.0)
 
 pub byte_two_exactly_when : ByteTwoExactlyWhen
-byte_two_exactly_when l r s of may last =
-    let b = closing_bytes (drives_of l) r s of may last in
+byte_two_exactly_when l r s may last =
+    let b = closing_bytes (drives_of l) r s may last in
     go (means_protected l r.unit) b.unprotected b.protected
   where
     byte2 : ℕ
@@ -179,7 +122,7 @@ byte_two_exactly_when l r s of may last =
 
 pub byte_three_exactly_when : ByteThreeExactlyWhen
 unfolding record_of
-byte_three_exactly_when c a m d r s same of may last N =
-    let byte3 = (closing_bytes d r s of may last).internal ∙ same in
+byte_three_exactly_when c a m d r s same may last N =
+    let byte3 = (closing_bytes d r s may last).internal ∙ same in
     let exactly = fitted_exactly_when c (d.on c.unit) m N in
     ((λ e. exactly.0 (sym byte3 ∙ e)), λ t. byte3 ∙ exactly.1 t)

@@ -4,14 +4,14 @@ use Rattle.promises.proofs.Walk.{walk_exactly_when}
 use Rattle.promises.proofs.Numbers.{pick_exactly_when, run_exactly_when}
 
 pub each_walk_number : EachWalkNumber
-each_walk_number d e s w t' g =
+each_walk_number d start s w t' g =
     record {
-      walk_1_exactly_when = walk_exactly_when 1 d e s w t' g;
-      walk_2_exactly_when = walk_exactly_when 2 d e s w t' g;
-      walk_5_exactly_when = walk_exactly_when 5 d e s w t' g;
-      walk_3_exactly_when = walk_exactly_when 3 d e s w t' g;
-      walk_4_exactly_when = walk_exactly_when 4 d e s w t' g;
-      walk_0_exactly_when = walk_exactly_when 0 d e s w t' g;
+      walk_1_exactly_when = walk_exactly_when 1 d start s w t' g;
+      walk_2_exactly_when = walk_exactly_when 2 d start s w t' g;
+      walk_5_exactly_when = walk_exactly_when 5 d start s w t' g;
+      walk_3_exactly_when = walk_exactly_when 3 d start s w t' g;
+      walk_4_exactly_when = walk_exactly_when 4 d start s w t' g;
+      walk_0_exactly_when = walk_exactly_when 0 d start s w t' g;
     }
 
 pub each_pick_number : EachPickNumber

@@ -22,8 +22,6 @@ use Rattle.meaning.specs.Sectors.{sector_bytes, sector_number}
 use Rattle.meaning.specs.Ranges.{bytes, sectors_of}
 use Rattle.meaning.specs.Links.{link_at, links_at, range_of, bytes_in}
 use Rattle.meaning.specs.Pieces.{Piece, pieces_of}
-use Rattle.meaning.specs.Front.{front_of, status_from, status_many}
-use Rattle.meaning.proofs.Front.{close_753}
 use Rattle.meaning.specs.Fields.{byte_of, bit, two_bytes, sgm, data_address}
 use Rattle.meaning.specs.Code.{copied_at, read, write, command_in, gathers, first_sector, link_count, links_in, list_outside, code_of, fitted_of, early_code, links_read}
 use Rattle.meaning.specs.Walk.{record_of}
@@ -119,10 +117,10 @@ module _ (r q : Record) (x : Link) (o : OneRange r q x) where
   same_touched =
       λ j.
       cond (same_reads j)
-      (record { read = sectors_of (o.same.unit j) (o.same.sector j) (o.same.count j) ∷ []; written = same_data j ++ bytes (o.same.iopb j + status_from (front_of (o.same.front j))) (status_many (front_of (o.same.front j))) ∷ [] })
+      (record { read = sectors_of (o.same.unit j) (o.same.sector j) (o.same.count j) ∷ []; written = same_data j ++ bytes (o.same.iopb j) 4 ∷ [] })
       (cond (same_writes j)
-      (record { read = same_data j; written = sectors_of (o.same.unit j) (o.same.sector j) (o.same.count j) ∷ bytes (o.same.iopb j + status_from (front_of (o.same.front j))) (status_many (front_of (o.same.front j))) ∷ [] })
-      (record { read = []; written = bytes (o.same.iopb j + status_from (front_of (o.same.front j))) (status_many (front_of (o.same.front j))) ∷ [] }))
+      (record { read = same_data j; written = sectors_of (o.same.unit j) (o.same.sector j) (o.same.count j) ∷ bytes (o.same.iopb j) 4 ∷ [] })
+      (record { read = []; written = bytes (o.same.iopb j) 4 ∷ [] }))
 
   same_conflict : (e : Record) → conflict e r ≡ conflict e q
   unfolding conflict
@@ -166,11 +164,9 @@ module _ (r q : Record) (x : Link) (o : OneRange r q x) where
         go p y n (holds z) = others_same (u p) r.iopb (r.code ∷ byte2 ∷ r.fitted ∷ []) b e y (λ w. n (z, w))
         go p y n (fails o) = refl
 
-    own_close : close_move d r ≡ closes (closing_byte0 r)
-    own_close = close_753 d r o.same.of_753
-
     same_close : close_move d q ≡ closes (closing_byte0 q)
-    same_close = close_753 d q (ap front_of (sym o.same.front) ∙ o.same.of_753) ∙ λ j. post memory (sym o.same.iopb j) (closing_byte0 q ∷ sym o.same.code j ∷ drive_status (d.on (sym o.same.unit j)) ∷ sym o.same.fitted j ∷ []) ∷ []
+    unfolding close_move closing
+    same_close = λ j. post memory (sym o.same.iopb j) (closing_byte0 q ∷ sym o.same.code j ∷ drive_status (d.on (sym o.same.unit j)) ∷ sym o.same.fitted j ∷ []) ∷ []
 
     closing_but_sgm : ButSgm (closing_byte0 r) (closing_byte0 q)
     unfolding errs_of
@@ -201,8 +197,8 @@ module _ (r q : Record) (x : Link) (o : OneRange r q x) where
       open_step e = rw (step_r, step_q, e)
 
       step_alike : AlikeBut r.iopb (step d r s) (step d q s)
-      unfolding moves
-      step_alike = rw (step_r, step_q, own_close, same_close) (go last)
+      unfolding close_move closing moves
+      step_alike = rw (step_r, step_q, same_close) (go last)
         where
           go : (z : Bool) → AlikeBut r.iopb (moves (cond z (closes (closing_byte0 r)) []) between) (moves (cond z (closes (closing_byte0 q)) []) between)
           go true = close_alike between (closing_byte0 r) (closing_byte0 q) closing_but_sgm
@@ -227,8 +223,6 @@ stays_one_range r q x o =
             byte0 = o.same.byte0;
             code = o.same.code;
             fitted = o.same.fitted;
-            front = o.same.front;
-            of_753 = o.same.of_753;
           };
       plain = o.plain;
       one = o.one;
@@ -315,7 +309,7 @@ walked_so m m' d a h =
     let same_count = same_two m m' d a h 8 (omega arith) (omega arith) in
     let sum = ap (λ (xs : List Link). bytes_in (map range_of xs)) (sym link) ∙ adds_up c on m g h.listed in
     record {
-      same = record { iopb = refl; sector = same_first m m' d a h; taken = refl; count = same_count; unit = same_unit m m' d a h; byte0 = h.byte0; code = h.listed ∙ sym h.plain; fitted = nothing_told m on c h.listed ∙ sym (nothing_told m' on' e h.plain); front = refl; of_753 = refl };
+      same = record { iopb = refl; sector = same_first m m' d a h; taken = refl; count = same_count; unit = same_unit m m' d a h; byte0 = h.byte0; code = h.listed ∙ sym h.plain; fitted = nothing_told m on c h.listed ∙ sym (nothing_told m' on' e h.plain) };
       plain = ap length (none_read m' on' e none);
       one = ap length is_one;
       only = links_kept (links_read m c on) ∙ is_one;

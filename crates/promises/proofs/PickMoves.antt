@@ -20,7 +20,7 @@ use Rattle.promises.proofs.StepMoves.{step_moves_one}
 
 one_step_more : (r : Record) → OneStepMore r (stepped r)
 unfolding stepped with_taken
-one_step_more r = record { taken = refl; iopb = refl; address = refl; sector = refl; ranges = refl; front = refl; count = refl; unit = refl; byte0 = refl; code = refl; fitted = refl; list = refl }
+one_step_more r = record { taken = refl; iopb = refl; address = refl; sector = refl; ranges = refl; count = refl; unit = refl; byte0 = refl; code = refl; fitted = refl; list = refl }
 
 module _ (d : Drives) (n p : ℕ) (s : State) (zero : pick_number d n p s ≡ 0) where
   passed : Passed d n s

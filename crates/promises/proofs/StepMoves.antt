@@ -20,8 +20,6 @@ use Rattle.meaning.specs.Touch.{data_bytes}
 use Rattle.meaning.specs.Step.{pieces_at, in_sector, sector_move_by, sector_move, closing, close_move, step_moves, step}
 use Rattle.meaning.specs.Conditions.{Absent, Reads, Writes, SomeOf}
 use Rattle.meaning.proofs.All.{All, all_map, all_both}
-use Rattle.meaning.specs.Front.{front_in, status_many, status_at}
-use Rattle.meaning.proofs.Front.{status_within, closing_many}
 use Rattle.meaning.proofs.Means.{Means, holds, fails, when_false, is_true, is_false, means_eq}
 use Rattle.meaning.proofs.Spaces.{moves_append, length_moves}
 use Rattle.meaning.proofs.Ranges.{means_same}
@@ -154,21 +152,18 @@ module _ (r : Record) where
 -- ---- the close, of any record
 
 record Closed (d : Drives) (r : Record) (s s' : Store) : Type 0 where
-  posted : Last r → status_at r + status_many (front_in r) ≤ length (s memory) → (j : ℕ) → j < status_many (front_in r) → get_or (s' memory) (status_at r + j) 0 ≡ get_or (closing d r) j 0
+  posted : Last r → r.iopb + 4 ≤ length (s memory) → (j : ℕ) → j < 4 → get_or (s' memory) (r.iopb + j) 0 ≡ get_or (closing d r) j 0
   stays : (p : Space) (x : ℕ) → ¬ Posted r p x → get_or (s' p) x 0 ≡ get_or (s p) x 0
 
 closed : (d : Drives) (r : Record) (s : Store) → Closed d r s (moves (cond (eqb (r.taken + 1) (steps_of r)) (close_move d r) []) s)
 unfolding close_move moves move
 closed d r s = go (means_eq (r.taken + 1) (steps_of r))
   where
-    many : length (closing d r) ≡ status_many (front_in r)
-    many = closing_many d r
-
-    go : {b : Bool} → Means (Last r) b → Closed d r s (moves (cond b (post memory (status_at r) (closing d r) ∷ []) []) s)
+    go : {b : Bool} → Means (Last r) b → Closed d r s (moves (cond b (post memory r.iopb (closing d r) ∷ []) []) s)
     go (holds l) =
         record {
-          posted = λ _ fits j h. put_in memory (status_at r) (closing d r) s (omega (arith, many, fits)) j (omega (arith, many, h));
-          stays = λ p x n. put_out memory (status_at r) (closing d r) s p x (λ h. n (l, (h.0, (h.1.0, omega (arith, many, h.1.1)))));
+          posted = λ _ fits. put_in memory r.iopb (closing d r) s fits;
+          stays = λ p x n. put_out memory r.iopb (closing d r) s p x (λ h. n (l, h));
         }
     go (fails n) = record { posted = λ l. absurd (n l); stays = λ _ _ _. refl }
 
@@ -192,8 +187,8 @@ module _ (d : Drives) (r : Record) (s : Store) (may : MayStep d r s) where
   sound = good d s r (is_false (means_bad_record d s r) may.sound)
 
   -- what number 9 lets pass lies in memory and on the drive
-  status_in : status_at r + status_many (front_in r) ≤ length (s memory)
-  status_in = let h = sound.placed in omega (arith, status_within (front_in r))
+  status_in : r.iopb + 4 ≤ length (s memory)
+  status_in = let h = sound.placed in omega arith
 
   pub data_in : Reads r ⊎ Writes r → DataIn r s
   data_in t =

@@ -8,7 +8,7 @@ use Rattle.meaning.specs.Store.{memory, disk, Store}
 use Rattle.meaning.specs.State.{state_in}
 use Rattle.meaning.specs.Sizes.{store_wrong}
 use Rattle.meaning.specs.Look.{look_number}
-use Rattle.meaning.specs.Walk.{Entry, walk_reply, walk_leaves}
+use Rattle.meaning.specs.Walk.{walk_reply, walk_leaves}
 use Rattle.meaning.specs.Pick.{pick_number}
 use Rattle.meaning.specs.Run.{run_number}
 use Rattle.meaning.specs.Conditions.{Present}
@@ -43,8 +43,8 @@ pub record SameStore (d : Drives) (s s' : Store) : Type 0 where
 pub record SameNumbers (d : Drives) (s s' : Store) : Type 0 where
   pub store : store_wrong d s ≡ store_wrong d s'
   pub look : (u n : ℕ) → look_number d u n s ≡ look_number d u n s'
-  pub walk : (start : Entry) (t : List Record) → walk_reply d start (state_in s t) ≡ walk_reply d start (state_in s' t)
-  pub records : (start : Entry) (t : List Record) → walk_leaves d start (state_in s t) ≡ walk_leaves d start (state_in s' t)
+  pub walk : (start : ℕ) (t : List Record) → walk_reply d start (state_in s t) ≡ walk_reply d start (state_in s' t)
+  pub records : (start : ℕ) (t : List Record) → walk_leaves d start (state_in s t) ≡ walk_leaves d start (state_in s' t)
   pub pick : (n p : ℕ) (t : List Record) → pick_number d n p (state_in s t) ≡ pick_number d n p (state_in s' t)
   pub run : (n : ℕ) (t : List Record) → run_number d n (state_in s t) ≡ run_number d n (state_in s' t)
 

@@ -11,8 +11,7 @@ use Rattle.meaning.specs.Store.{Space, memory, Store}
 use Rattle.meaning.specs.State.{State}
 use Rattle.meaning.specs.Sizes.{sizes_wrong}
 use Rattle.meaning.specs.Look.{look_number, look_part, looked_part}
-use Rattle.promises.specs.Closing.{Of753}
-use Rattle.meaning.specs.Walk.{at753, walk_reply, walk_leaves}
+use Rattle.meaning.specs.Walk.{walk_reply, walk_leaves}
 use Rattle.meaning.specs.Step.{closing, step}
 use Rattle.meaning.specs.Pick.{spoiled, pick_number, picked, PickGives}
 use Rattle.meaning.specs.Run.{Tally, run_number, by_picks, as_written, ran_to, run_reply, RunGives}
@@ -52,7 +51,6 @@ shown r =
       sector = cond (eqb r.unit 0) r.sector 0;
       taken = r.taken;
       ranges = r.ranges;
-      front = r.front;
       count = r.count;
       unit = r.unit;
       byte0 = r.byte0;
@@ -68,8 +66,8 @@ pub record SameReplies (d : Drive) : Type 0 where
   pub look_number_lem : (u n : ℕ) (s : Store) → look_number (today d) u n s ≡ look_number (base d) u n s
   pub look_part_lem : (u n : ℕ) (s : Store) → look_part (today d) u n s ≡ look_part (base d) u n s
   pub looked_part_lem : (u n : ℕ) (s : Store) → looked_part (today d) u n s ≡ looked_part (base d) u n s
-  pub walk : (start : ℕ) (s : State) → walk_reply (today d) (at753 start) s ≡ walk_reply (base d) (at753 start) s
-  pub records : (start : ℕ) (s : State) → map shown (walk_leaves (today d) (at753 start) s) ≡ map shown (walk_leaves (base d) (at753 start) s)
+  pub walk : (start : ℕ) (s : State) → walk_reply (today d) start s ≡ walk_reply (base d) start s
+  pub records : (start : ℕ) (s : State) → map shown (walk_leaves (today d) start s) ≡ map shown (walk_leaves (base d) start s)
   pub pick : (n p : ℕ) (s : State) → pick_number (today d) n p s ≡ pick_number (base d) n p s
   pub pick_table_lem : (n p : ℕ) (s : State) → (picked (today d) n p s).table ≡ (picked (base d) n p s).table
   pub run : (n : ℕ) (s : State) → run_number (today d) n s ≡ run_number (base d) n s
@@ -104,8 +102,8 @@ pub record SameButByteTwo (d : Drive) : Type 0 where
   -- the bytes of a close: byte 2 is another exactly where drive 0 is protected and the unit is not 0
   pub others : (r : Record) (j : ℕ) → j ≢ 2 → get_or (closing (today d) r) j 0 ≡ get_or (closing (base d) r) j 0
   pub same : (r : Record) → (r.unit ≡ 0) ⊎ (d.protected ≡ false) → closing (today d) r ≡ closing (base d) r
-  pub now_03 : (r : Record) → Of753 r → r.unit ≢ 0 → get_or (closing (today d) r) 2 0 ≡ 0x03
-  pub before_13 : (r : Record) → Of753 r → d.protected ≡ true → get_or (closing (base d) r) 2 0 ≡ 0x13
+  pub now_03 : (r : Record) → r.unit ≢ 0 → get_or (closing (today d) r) 2 0 ≡ 0x03
+  pub before_13 : (r : Record) → d.protected ≡ true → get_or (closing (base d) r) 2 0 ≡ 0x13
 
 -- d is drive 0, and it is there
 pub record AsItWas (d : Drive) : Type 0 where

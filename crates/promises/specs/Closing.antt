@@ -1,26 +1,17 @@
--- What the status bytes hold after the last step of a command, bit by bit: of a 753 (Step 6 to 9), and of a 431 (Multibus 17 and 18). d are the drives, l drives as they are lent, r
+-- What the four status bytes hold after the last step of a command, bit by bit (Step 6 to 9). d are the drives, l drives as they are lent, r
 -- the record of the command, s memory and disks before the step.
-use Rattle.std.specs.Prelude.{◌≡◌, ◌↔◌, ◌≢◌, ◌⊎◌, ℕ, ◌+◌, ◌/◌, ◌%◌, ◌<◌, true, false, List, get_or}
+use Rattle.std.specs.Prelude.{◌≡◌, ◌↔◌, ◌≢◌, ℕ, ◌+◌, ◌<◌, true, false, List, get_or}
 use Rattle.meaning.specs.declared.LentDrives.{LentDrives}
 use Rattle.meaning.specs.Drives.{Drives, most_units, drives_of}
 use Rattle.meaning.specs.declared.Copied.{Copied}
 use Rattle.meaning.specs.declared.Record.{Record}
 use Rattle.meaning.specs.Store.{memory, Store}
-use Rattle.meaning.specs.declared.FrontEnd.TheVariants.{Xylogics753, Xylogics431}
-use Rattle.meaning.specs.Front.{front_in}
 use Rattle.meaning.specs.Fields.{bit}
 use Rattle.meaning.specs.Walk.{record_of}
 use Rattle.meaning.specs.Step.{step}
 use Rattle.promises.specs.AbsentUnits.{lent_for}
 use Rattle.promises.specs.Fitted.{Told}
-use Rattle.promises.specs.StepMoves.{MayStep, Last, Fetched}
-
--- a command of a 753, and one of a 431
-abbrev pub Of753 : Record → Type 0
-Of753 r = front_in r ≡ Xylogics753
-
-abbrev pub Of431 : Record → Type 0
-Of431 r = front_in r ≡ Xylogics431
+use Rattle.promises.specs.StepMoves.{MayStep, Last}
 
 -- `byte` gives bytes 0 to 3; bit 7 of byte 0 is ERRS, bit 6 DONE, and its other bits are those of the copied byte 0
 pub record StatusBytes (d : Drives) (r : Record) (byte : ℕ → ℕ) : Type 0 where
@@ -36,39 +27,9 @@ pub record StatusBytes (d : Drives) (r : Record) (byte : ℕ → ℕ) : Type 0 w
 abbrev pub ClosingBytes : Type 0
 ClosingBytes =
     (d : Drives) (r : Record) (s : Store)
-    → Of753 r
     → MayStep d r s
     → Last r
     → StatusBytes d r (λ j. get_or (step d r s memory) (r.iopb + j) 0)
-
--- Of a 431, bytes 4 and 5 of its IOPB: bit 0 of byte 4 is DONE, bits 4-1 are the controller type, 5 of a 431, bit 7 is ERSM, and bits 6 and 5
--- are 0. So byte 4 is 0BH or 8BH.
-pub record StatusBytes431 (r : Record) (byte : ℕ → ℕ) : Type 0 where
-  pub ersm : (bit 7 (byte 4) ≡ 1) ↔ (r.code ≢ 0)
-  pub unused : (bit 6 (byte 4) ≡ 0) × (bit 5 (byte 4) ≡ 0)
-  pub controller : byte 4 / 2 % 16 ≡ 5
-  pub done : bit 0 (byte 4) ≡ 1
-  pub well : r.code ≡ 0 → byte 4 ≡ 0x0B
-  pub failed : r.code ≢ 0 → byte 4 ≡ 0x8B
-  pub code : byte 5 ≡ r.code
-
-abbrev pub ClosingBytes431 : Type 0
-ClosingBytes431 =
-    (d : Drives) (r : Record) (s : Store)
-    → Of431 r
-    → MayStep d r s
-    → Last r
-    → StatusBytes431 r (λ j. get_or (step d r s memory) (r.iopb + j) 0)
-
--- and every other byte of its IOPB is as it was, unless the step lays data there
-abbrev pub OthersStay431 : Type 0
-OthersStay431 =
-    (d : Drives) (r : Record) (s : Store)
-    → Of431 r
-    → (j : ℕ)
-    → (j < 4) ⊎ (5 < j)
-    → ¬ Fetched r memory (r.iopb + j)
-    → get_or (step d r s memory) (r.iopb + j) 0 ≡ get_or (s memory) (r.iopb + j) 0
 
 -- a unit of what is lent is there and protected
 abbrev pub ThereAndProtected : LentDrives → ℕ → Type 0
@@ -78,7 +39,6 @@ ThereAndProtected l u = (u < most_units) × (((lent_for l u).present ≡ true) �
 abbrev pub ByteTwoExactlyWhen : Type 0
 ByteTwoExactlyWhen =
     (l : LentDrives) (r : Record) (s : Store)
-    → Of753 r
     → MayStep (drives_of l) r s
     → Last r
     → let byte2 = get_or (step (drives_of l) r s memory) (r.iopb + 2) 0 in
@@ -90,7 +50,6 @@ abbrev pub ByteThreeExactlyWhen : Type 0
 ByteThreeExactlyWhen =
     (c : Copied) (a : ℕ) (m : List ℕ) (d : Drives) (r : Record) (s : Store)
     → r.fitted ≡ (record_of c a (d.on c.unit) m).fitted
-    → Of753 r
     → MayStep d r s
     → Last r
     → (N : ℕ)

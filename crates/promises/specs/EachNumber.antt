@@ -7,43 +7,45 @@ use Rattle.meaning.specs.declared.Walked.{Walked}
 use Rattle.meaning.specs.declared.Ran.{Ran}
 use Rattle.meaning.specs.Store.{memory}
 use Rattle.meaning.specs.State.{State, most_commands}
-use Rattle.meaning.specs.Walk.{Entry, WalkGives}
+use Rattle.meaning.specs.Walk.{WalkGives}
 use Rattle.meaning.specs.Command.{no_record}
 use Rattle.meaning.specs.Pick.{PickGives}
 use Rattle.meaning.specs.Run.{Tally, RunGives}
 use Rattle.meaning.specs.Table.{Otherwise}
-use Rattle.meaning.specs.Conditions.{SizesWrong, Finished, Spoiled, Waits}
-use Rattle.promises.specs.WalkNumbers.{Misplaced, EndsAt, reached, OutOfMemory, SharesEarlier, Comes}
+use Rattle.meaning.specs.Conditions.{Odd, SizesWrong, Finished, Spoiled, Waits}
+use Rattle.promises.specs.WalkNumbers.{OutOfMemory, SharesEarlier, Ends, Comes}
 
--- 1 is not given, the chain comes to its k-th IOPB, it is not the 33rd, and X of that place
-abbrev pub AtPlace : List ℕ → Drives → Entry → State → (ℕ → Type 0) → Type 0
-AtPlace m d e s X = (¬ SizesWrong d s) × ((k : ℕ) × Comes m d e k × ((¬ (most_commands ≤ k)) × X k))
+-- neither 1 nor 2 is given, and X
+abbrev pub Past2 : Drives → ℕ → State → Type 0 → Type 0
+Past2 d start s X = (¬ SizesWrong d s) × ((¬ Odd start) × X)
 
 -- m is memory; k is the place of the IOPB at which the number is given, the first place being 0
-pub record WalkByNumber (m : List ℕ) (d : Drives) (e : Entry) (s : State) (w : Walked) : Type 0 where
+pub record WalkByNumber (m : List ℕ) (d : Drives) (start : ℕ) (s : State) (w : Walked) : Type 0 where
   -- sizes are wrong
   pub walk_1_exactly_when : (w.number ≡ 1) ↔ SizesWrong d s
+  -- the first address is odd
+  pub walk_2_exactly_when : (w.number ≡ 2) ↔ ((¬ SizesWrong d s) × Odd start)
   -- the chain goes past 32 commands
-  pub walk_5_exactly_when : (w.number ≡ 5) ↔ ((¬ SizesWrong d s) × ((k : ℕ) × Comes m d e k × (most_commands ≤ k)))
-  -- an address is odd that may not be
-  pub walk_2_exactly_when : (w.number ≡ 2) ↔ AtPlace m d e s (λ k. Misplaced e.front k (reached m d e k))
-  -- an IOPB has not all its bytes in memory
-  pub walk_3_exactly_when : (w.number ≡ 3) ↔ AtPlace m d e s (λ k. (¬ Misplaced e.front k (reached m d e k)) × OutOfMemory m d e k)
+  pub walk_5_exactly_when : (w.number ≡ 5) ↔ Past2 d start s ((k : ℕ) × Comes m start k × (most_commands ≤ k))
+  -- an IOPB has not all its 30 bytes in memory
+  pub walk_3_exactly_when : (w.number ≡ 3)
+      ↔ Past2 d start s ((k : ℕ) × Comes m start k × ((¬ (most_commands ≤ k)) × OutOfMemory m start k))
   -- an IOPB shares a byte with an earlier one of the chain
   pub walk_4_exactly_when : (w.number ≡ 4)
-      ↔ AtPlace m d e s (λ k. (¬ Misplaced e.front k (reached m d e k)) × ((¬ OutOfMemory m d e k) × SharesEarlier m d e k))
+      ↔ Past2 d start s
+      ((k : ℕ) × Comes m start k × ((¬ (most_commands ≤ k)) × ((¬ OutOfMemory m start k) × SharesEarlier m start k)))
   -- the chain has come to its end
   pub walk_0_exactly_when : (w.number ≡ 0)
-      ↔ AtPlace m d e s
-      (λ k.
-      (¬ Misplaced e.front k (reached m d e k))
-      × ((¬ OutOfMemory m d e k) × ((¬ SharesEarlier m d e k) × EndsAt e.front m d (reached m d e k))))
+      ↔ Past2 d start s
+      ((k : ℕ)
+      × Comes m start k
+      × ((¬ (most_commands ≤ k)) × ((¬ OutOfMemory m start k) × ((¬ SharesEarlier m start k) × Ends m start k))))
 
 abbrev pub EachWalkNumber : Type 0
 EachWalkNumber =
-    (d : Drives) (e : Entry) (s : State) (w : Walked) (t' : List Record)
-    → WalkGives d e s w t'
-    → WalkByNumber (s.store memory) d e s w
+    (d : Drives) (start : ℕ) (s : State) (w : Walked) (t' : List Record)
+    → WalkGives d start s w t'
+    → WalkByNumber (s.store memory) d start s w
 
 -- r is the record at the place picked
 pub record PickByNumber (d : Drives) (n p : ℕ) (s : State) (r : Record) (k : ℕ) : Type 0 where

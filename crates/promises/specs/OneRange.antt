@@ -8,8 +8,6 @@ use Rattle.meaning.specs.declared.Link.{Link}
 use Rattle.meaning.specs.declared.Record.{Record}
 use Rattle.meaning.specs.Store.{Space, memory, Store}
 use Rattle.meaning.specs.Sectors.{sector_bytes}
-use Rattle.meaning.specs.declared.FrontEnd.TheVariants.{Xylogics753}
-use Rattle.meaning.specs.Front.{front_in}
 use Rattle.meaning.specs.Fields.{iopb_bytes, byte_of, bit, sgm, data_address}
 use Rattle.meaning.specs.Links.{link_at}
 use Rattle.meaning.specs.Code.{copied_at, link_count}
@@ -36,9 +34,6 @@ pub record SameButList (r q : Record) : Type 0 where
   pub byte0 : ButSgm r.byte0 q.byte0
   pub code : r.code ≡ q.code
   pub fitted : r.fitted ≡ q.fitted
-  -- both are of a 753: a 431 has no lists
-  pub front : r.front ≡ q.front
-  pub of_753 : front_in r ≡ Xylogics753
 
 -- q has no list; that of r has one range, x, which lies where the data of q does
 pub record OneRange (r q : Record) (x : Link) : Type 0 where

@@ -16,7 +16,7 @@ use Rattle.meaning.specs.State.{State, state_of}
 use Rattle.meaning.specs.Look.{look_number, look_part, looked_part, IsAll, IsPart}
 use Rattle.meaning.specs.Place.{placed}
 use Rattle.meaning.specs.View.{made_number, view_of}
-use Rattle.meaning.specs.Walk.{Entry, WalkGives}
+use Rattle.meaning.specs.Walk.{WalkGives}
 use Rattle.meaning.specs.Pick.{PickGives}
 use Rattle.meaning.specs.Run.{Tally, chain_steps, by_picks, as_written, RunGives}
 
@@ -34,7 +34,7 @@ OneOutcome {A} P = OneReply (λ (x : A × Left). P x.0 (left_state x.1))
 pub record EachHasOneReply : Type 1 where
   -- a postcondition that is an equation with a definition, whatever the definition: so are those of all functions that are not named here
   pub plain : {A : Type 0} (f : A) → OneReply (λ (r : A). r ≡ f)
-  pub walk : (d : Drives) (start : Entry) (s : State) → OneReply (λ (x : Walked × List Record). WalkGives d start s x.0 x.1)
+  pub walk : (d : Drives) (start : ℕ) (s : State) → OneReply (λ (x : Walked × List Record). WalkGives d start s x.0 x.1)
   pub pick : (d : Drives) (n p : ℕ) (x : Left) → OneOutcome (PickGives d n p (left_state x))
   pub run_by_picks_lem : (d : Drives) (n : ℕ) (ps : List ℕ) (x : Left) → OneOutcome (RunGives d n (by_picks d n ps) (left_state x))
   pub run_as_written_lem : (d : Drives) (n b : ℕ) (x : Left) → OneOutcome (RunGives d n (as_written d n b) (left_state x))

@@ -18,7 +18,6 @@ pub record OneStepMore (r r' : Record) : Type 0 where
   pub address : r'.address ≡ r.address
   pub sector : r'.sector ≡ r.sector
   pub ranges : r'.ranges ≡ r.ranges
-  pub front : r'.front ≡ r.front
   pub count : r'.count ≡ r.count
   pub unit : r'.unit ≡ r.unit
   pub byte0 : r'.byte0 ≡ r.byte0

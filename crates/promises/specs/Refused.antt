@@ -6,7 +6,7 @@ use Rattle.meaning.specs.declared.Record.{Record}
 use Rattle.meaning.specs.declared.Walked.{Walked}
 use Rattle.meaning.specs.declared.Ran.{Ran}
 use Rattle.meaning.specs.State.{State}
-use Rattle.meaning.specs.Walk.{Entry, WalkGives}
+use Rattle.meaning.specs.Walk.{WalkGives}
 use Rattle.meaning.specs.Pick.{PickGives}
 use Rattle.meaning.specs.Run.{Tally, RunGives}
 
@@ -19,7 +19,7 @@ pub record NothingDone (s : State) (r : Ran) (s' : State) : Type 0 where
 
 pub record RefusedChangesNothing : Type 0 where
   -- memory and images are lent to the walk for reading only; the number of commands is 0
-  pub walk : (d : Drives) (start : Entry) (s : State) (w : Walked) (t' : List Record)
+  pub walk : (d : Drives) (start : ℕ) (s : State) (w : Walked) (t' : List Record)
       → WalkGives d start s w t'
       → w.number ≢ 0
       → (t' ≡ s.table) × (w.commands ≡ 0)

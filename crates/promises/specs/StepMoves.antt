@@ -8,7 +8,6 @@ use Rattle.meaning.specs.Sectors.{sector_bytes}
 use Rattle.meaning.specs.Ranges.{Range, bytes}
 use Rattle.meaning.specs.Links.{bytes_in}
 use Rattle.meaning.specs.Pieces.{byte_at}
-use Rattle.meaning.specs.Front.{front_in, status_many, status_at}
 use Rattle.meaning.specs.Command.{steps_of}
 use Rattle.meaning.specs.Touch.{data_bytes}
 use Rattle.meaning.specs.Step.{sector_at, closing, step}
@@ -47,7 +46,7 @@ ByteOfRange =
 abbrev pub Last : Record → Type 0
 Last r = r.taken + 1 ≡ steps_of r
 
--- What this step writes, at byte x of a space: a Read's sector in memory, a Write's on its own disk, and the status bytes of the last step, which of them goes by its front end.
+-- What this step writes, at byte x of a space: a Read's sector in memory, a Write's on its own disk, and the four status bytes of the last step.
 abbrev pub Fetched : Record → Space → ℕ → Type 0
 Fetched r p x = Reads r × ((p ≡ memory) × ((j : ℕ) × (j < sector_bytes) × (x ≡ in_memory r j)))
 
@@ -55,7 +54,7 @@ abbrev pub Kept : Record → Space → ℕ → Type 0
 Kept r p x = Writes r × ((p ≡ own_disk r) × Within x (on_image r) sector_bytes)
 
 abbrev pub Posted : Record → Space → ℕ → Type 0
-Posted r p x = Last r × ((p ≡ memory) × Within x (status_at r) (status_many (front_in r)))
+Posted r p x = Last r × ((p ≡ memory) × Within x r.iopb 4)
 
 pub record Moved (d : Drives) (r : Record) (s s' : Store) : Type 0 where
   -- a Read's sector comes into memory; where ranges overlap the later range of the list stays, and the close, after its sector has moved,
@@ -68,8 +67,8 @@ pub record Moved (d : Drives) (r : Record) (s s' : Store) : Type 0 where
       → get_or (s' memory) (in_memory r j) 0 ≡ get_or (s (own_disk r)) (on_image r + j) 0
   -- a Write's sector comes onto the disk of its own unit
   pub kept : Writes r → (j : ℕ) → j < sector_bytes → get_or (s' (own_disk r)) (on_image r + j) 0 ≡ get_or (s memory) (in_memory r j) 0
-  -- the last step posts the bytes of the close
-  pub posted : Last r → (j : ℕ) → j < status_many (front_in r) → get_or (s' memory) (status_at r + j) 0 ≡ get_or (closing d r) j 0
+  -- the last step posts the four bytes of the close
+  pub posted : Last r → (j : ℕ) → j < 4 → get_or (s' memory) (r.iopb + j) 0 ≡ get_or (closing d r) j 0
   -- all other bytes stay, of every space
   pub stays : (p : Space) (x : ℕ) → ¬ Fetched r p x → ¬ Kept r p x → ¬ Posted r p x → get_or (s' p) x 0 ≡ get_or (s p) x 0
   pub sizes : (p : Space) → length (s' p) ≡ length (s p)

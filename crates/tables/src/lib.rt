@@ -31,7 +31,6 @@ pub fn no_records() -> [Record; 32]
         sector: 0,
         taken: 0,
         ranges: 0,
-        front: 0,
         count: 0,
         unit: 0,
         byte0: 0,

@@ -3,4 +3,3 @@ pub mod Callee
 pub mod Reading
 pub mod Zero
 pub mod OneReply
-pub mod Sisters

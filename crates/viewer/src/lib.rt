@@ -1,8 +1,6 @@
 // A viewer over lent memory shows one IOPB field by field: it keeps the memory and the address, and the number of its making (View 1 to 7).
 // The functions over the viewer are thin: each takes it apart and leaves the work to a function over the slice and the address. `view`
 // shows all fields at once, to a caller that keeps no viewer.
-pub mod sister;
-
 ghost use Rattle.std.specs.Prelude.{◌≡◌};
 ghost use Rattle.meaning.specs.Fields as iopb;
 ghost use Rattle.meaning.specs.View.{made_number, made, view_of};

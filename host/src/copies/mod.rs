@@ -26,9 +26,8 @@ impl Default for Sizes {
 }
 
 /// The exported functions that take a table, and the most copies of one that each may make.
-pub const LIMITS: [(&str, usize); 5] = [
+pub const LIMITS: [(&str, usize); 4] = [
     ("rosadenca_walk", 0),
-    ("rosadenca_walk_431", 0),
     ("rosadenca_pick", 0),
     ("rosadenca_run_picks", 2),
     ("rosadenca_run_written", 2),

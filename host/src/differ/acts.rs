@@ -8,12 +8,10 @@ use crate::differ::sides::RECORDS;
 use crate::differ::spoil::{spoil_and_call, wrong_size_and_call};
 use crate::differ::units::{any_unit, some_unit};
 use second::drive::Drive;
-use second::makers::aim::Start;
 use second::makers::rng::Rng;
 
-/// A walk by either front end, mostly with 32 records lent; after a table that is too short, again with
-/// enough.
-pub fn walk(play: &mut Play, start: Start) -> Played {
+/// A walk, mostly with 32 records lent; after a table that is too short, again with enough.
+pub fn walk(play: &mut Play, start: u32) -> Played {
     let lent = lent_length(play);
     walk_with(play, start, lent)?;
     if lent < 32 {
@@ -22,18 +20,8 @@ pub fn walk(play: &mut Play, start: Start) -> Played {
     Ok(())
 }
 
-/// The call that walks from a start.
-pub fn walk_call(start: Start, lent: usize) -> Call {
-    match start {
-        Start::Of753(start) => Call::Walk { start: start as u32, lent },
-        Start::Of431 { relocation, start } => {
-            Call::Walk431 { relocation: relocation as u16, start: start as u16, lent }
-        }
-    }
-}
-
-fn walk_with(play: &mut Play, start: Start, lent: usize) -> Played {
-    if let Reply::Walked(walked) = play.call(walk_call(start, lent))? {
+fn walk_with(play: &mut Play, start: u32, lent: usize) -> Played {
+    if let Reply::Walked(walked) = play.call(Call::Walk { start, lent })? {
         play.commands = walked.commands;
     }
     Ok(())
@@ -67,7 +55,7 @@ pub fn act(play: &mut Play) -> Played {
             one_pick(play)
         }
         _ => {
-            let start = play.aim.start;
+            let start = play.chain.start as u32;
             walk(play, start)
         }
     }
@@ -146,7 +134,9 @@ fn host_writes(play: &mut Play) {
     if memory < 30 {
         return;
     }
-    let places = [&play.aim.addresses[..], &play.lists].concat();
+    let blocks = play.chain.blocks.iter().map(|(at, _)| *at);
+    let lists = play.chain.lists.iter().map(|(at, _)| *at);
+    let places: Vec<u64> = blocks.chain(lists).collect();
     let last = memory as u64 - 30;
     let at = if places.is_empty() { play.rng.between(0, last) } else { play.rng.one_of(&places) };
     let at = at.min(last);
@@ -163,9 +153,8 @@ pub fn look_around(play: &mut Play) -> Played {
     let sector = random_sector(play, unit);
     play.call(Call::Place { unit, sector })?;
     for _ in 0..play.rng.between(1, 2) {
-        let at = random_address(play).min(0xFFFF_FFFF) as u32;
-        let call = view_call(play, at);
-        play.call(call)?;
+        let at = random_address(play);
+        play.call(Call::View { at: at.min(0xFFFF_FFFF) as u32 })?;
     }
     Ok(())
 }
@@ -209,26 +198,16 @@ fn end_of_a_head(rng: &mut Rng, drive: &Drive) -> u64 {
     drive.sector_number(cylinder, head, drive.max_sector_of(head)) + rng.below(2)
 }
 
-/// A view at an address, mostly of the front end that the chain is of.
-fn view_call(play: &mut Play, at: u32) -> Call {
-    let own = matches!(play.aim.start, Start::Of431 { .. });
-    if own != play.rng.percent(6) {
-        Call::View431 { at }
-    } else {
-        Call::View { at }
-    }
-}
-
 /// An address for a view: at memory's end, past it, or on the chain.
 fn random_address(play: &mut Play) -> u64 {
-    let bytes = play.aim.start.iopb_bytes();
-    let last = play.sides.ground().memory_bytes().saturating_sub(bytes);
+    let last = play.sides.ground().memory_bytes().saturating_sub(30);
+    let blocks = play.chain.blocks.len() as u64;
     match play.rng.below(10) {
         0 => last,
         1 => last + play.rng.between(1, 2),
-        2 => play.rng.one_of(&[0xFFFF_FFFF, 0xFFFF_FFFE, (1 << 32) - bytes]),
+        2 => play.rng.one_of(&[0xFFFF_FFFF, 0xFFFF_FFFE, 0xFFFF_FFE2]),
         3 => play.rng.between(0, last),
-        _ if play.aim.addresses.is_empty() => play.rng.below(4),
-        _ => play.rng.one_of(&play.aim.addresses),
+        _ if blocks == 0 => play.rng.below(4),
+        _ => play.chain.blocks[play.rng.below(blocks) as usize].0,
     }
 }

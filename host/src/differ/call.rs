@@ -11,14 +11,12 @@ use std::fmt;
 #[derive(Clone, Debug, PartialEq, Eq)]
 pub enum Call {
     Walk { start: u32, lent: usize },
-    Walk431 { relocation: u16, start: u16, lent: usize },
     Pick { place: usize, commands: usize, lent: usize },
     Picks { picks: Vec<u8>, commands: usize, lent: usize },
     Written { budget: u64, commands: usize, lent: usize },
     Look { unit: u8, sector: u32 },
     Place { unit: usize, sector: u32 },
     View { at: u32 },
-    View431 { at: u32 },
 }
 
 /// What a call gives.
@@ -43,11 +41,6 @@ pub enum Reply {
         number: u8,
         fields: [u64; 18],
     },
-    /// The same of the 431's viewer.
-    Viewed431 {
-        number: u8,
-        fields: [u64; 16],
-    },
 }
 
 impl Call {
@@ -55,14 +48,12 @@ impl Call {
     pub fn word(&self) -> &'static str {
         match self {
             Call::Walk { .. } => "walk",
-            Call::Walk431 { .. } => "walk of a 431",
             Call::Pick { .. } => "pick",
             Call::Picks { .. } => "run by picks",
             Call::Written { .. } => "run as written",
             Call::Look { .. } => "look",
             Call::Place { .. } => "place",
             Call::View { .. } => "view",
-            Call::View431 { .. } => "view of a 431",
         }
     }
 
@@ -71,14 +62,13 @@ impl Call {
     pub fn others_right(&self, ground: &Board) -> Option<bool> {
         match self {
             Call::Walk { lent, .. }
-            | Call::Walk431 { lent, .. }
             | Call::Pick { lent, .. }
             | Call::Picks { lent, .. }
             | Call::Written { lent, .. } => {
                 Some(*lent as u64 >= MOST_COMMANDS && ground.memory_right())
             }
             Call::Look { .. } => Some(true),
-            Call::Place { .. } | Call::View { .. } | Call::View431 { .. } => None,
+            Call::Place { .. } | Call::View { .. } => None,
         }
     }
 
@@ -111,8 +101,7 @@ impl Reply {
             Reply::Ran(ran) => ran.number,
             Reply::Looked { number, .. }
             | Reply::Placed { number, .. }
-            | Reply::Viewed { number, .. }
-            | Reply::Viewed431 { number, .. } => *number,
+            | Reply::Viewed { number, .. } => *number,
         }
     }
 }
@@ -123,10 +112,6 @@ impl fmt::Display for Call {
             Call::Walk { start, lent } => {
                 write!(out, "walk from {start}, with {lent} records lent")
             }
-            Call::Walk431 { relocation, start, lent } => write!(
-                out,
-                "walk of a 431 from {start}, relocation {relocation}, with {lent} records lent"
-            ),
             Call::Pick { place, commands, lent } => {
                 write!(out, "pick {place} of {commands} commands, with {lent} records lent")
             }
@@ -142,7 +127,6 @@ impl fmt::Display for Call {
                 write!(out, "place of sector {sector} on the drive lent for unit {unit}")
             }
             Call::View { at } => write!(out, "view at {at}"),
-            Call::View431 { at } => write!(out, "view of a 431 at {at}"),
         }
     }
 }
@@ -169,9 +153,6 @@ impl fmt::Display for Reply {
                 write!(out, "number {number}, cylinder {cylinder}, head {head}, sector {sector}")
             }
             Reply::Viewed { number, fields } => write!(out, "number {number}, fields {fields:?}"),
-            Reply::Viewed431 { number, fields } => {
-                write!(out, "number {number}, fields {fields:?}")
-            }
         }
     }
 }

@@ -1,27 +1,23 @@
 //! How often each number and each code came up, each thing that the last head's own maximum or a link
-//! list changes, numbers at the edges of 16 and 32 bits, numbers of sectors that would have fitted, what
-//! several units change, and what is a 431's own, so that one can see that all were reached.
+//! list changes, numbers at the edges of 16 and 32 bits, numbers of sectors that would have fitted, and
+//! what several units change, so that one can see that all were reached.
 
 use crate::differ::call::{Call, Reply};
 use crate::differ::sides::RECORDS;
-use crate::differ::{
-    fitted_rows, last_head, list_rows, sister_rows, unit_rows, unit_steps, wide_rows,
-};
+use crate::differ::{fitted_rows, last_head, list_rows, unit_rows, unit_steps, wide_rows};
 use second::board::Board;
 use second::record::Record;
 use std::collections::BTreeMap;
 
 /// The numbers that each call can give.
-const NUMBERS: [(&str, &[u8]); 9] = [
+const NUMBERS: [(&str, &[u8]); 7] = [
     ("walk", &[0, 1, 2, 3, 4, 5]),
-    ("walk of a 431", &[0, 1, 2, 3, 4, 5]),
     ("pick", &[0, 1, 6, 7, 8, 9]),
     ("run by picks", &[0, 1, 9]),
     ("run as written", &[0, 1, 9]),
     ("look", &[0, 1, 10, 11]),
     ("place", &[0, 1, 10]),
     ("view", &[0, 2, 3]),
-    ("view of a 431", &[0, 2, 3]),
 ];
 
 /// The codes, in the order of document 01 and, after 90, of ticket 2.
@@ -59,7 +55,6 @@ fn all_rows() -> Vec<String> {
         .chain(fitted)
         .chain(unit_rows::all_rows())
         .chain(unit_steps::all_rows())
-        .chain(sister_rows::all_rows())
         .collect()
 }
 
@@ -75,7 +70,7 @@ impl Counts {
     pub fn see(&mut self, call: &Call, reply: &Reply, ground: &Board, table: &[Record; RECORDS]) {
         self.calls += 1;
         self.add(number_row(call.word(), reply.number()), 1);
-        for rows in [last_head::rows, unit_rows::rows, unit_steps::rows, sister_rows::rows] {
+        for rows in [last_head::rows, unit_rows::rows, unit_steps::rows] {
             for row in rows(call, reply, ground, table) {
                 self.add(row, 1);
             }
@@ -86,8 +81,7 @@ impl Counts {
             }
         }
         match reply {
-            // the codes of a 431 have rows of their own
-            Reply::Walked(walked) if matches!(call, Call::Walk { .. }) => {
+            Reply::Walked(walked) => {
                 for record in &table[..walked.commands] {
                     self.add(code_row(record.code), 1);
                 }

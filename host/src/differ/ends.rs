@@ -35,27 +35,26 @@ pub fn chain_about_ends(play: &mut Play) -> Played {
     }
     put_chain(play, chain);
     leave_old_records(play);
-    let start = play.aim.start;
+    let start = play.chain.start as u32;
     walk(play, start)?;
     for _ in 0..play.rng.between(1, 4) {
         act(play)?;
     }
     play.call(Call::Written { budget: u64::MAX, commands: play.commands, lent: 32 })?;
-    for at in play.aim.addresses.clone().into_iter().take(3) {
-        play.call(Call::View { at: at as u32 })?;
+    for (at, _) in play.chain.blocks.clone().iter().take(3) {
+        play.call(Call::View { at: *at as u32 })?;
     }
     Ok(())
 }
 
 /// What lay in the table before the walk: it must not show in the records of the walk's own commands, and
 /// must stay in the others.
-pub fn leave_old_records(play: &mut Play) {
+fn leave_old_records(play: &mut Play) {
     for place in 0..play.rng.below(8) as usize {
         let rng = &mut play.rng;
         let old = Record {
             fitted: rng.byte(),
             unit: rng.byte(),
-            front: rng.byte(),
             unused: std::array::from_fn(|_| rng.next() as u16),
             ..Record::default()
         };

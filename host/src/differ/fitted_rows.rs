@@ -82,7 +82,7 @@ pub const ROWS: [&str; 33] = [
 /// The rows of a call on this ground, both as the call left them.
 pub fn rows(call: &Call, reply: &Reply, ground: &Board, table: &[Record]) -> Vec<&'static str> {
     match (call, reply, reply.number()) {
-        (Call::Walk { .. }, Reply::Walked(walked), 0) => {
+        (_, Reply::Walked(walked), 0) => {
             table[..walked.commands].iter().flat_map(|r| walked_rows(ground, r)).collect()
         }
         (Call::Pick { place, commands, .. }, _, 0) => {
@@ -187,10 +187,9 @@ fn range_has_room(ground: &Board, record: &Record) -> bool {
     record.data_ranges().iter().filter(outside).any(room)
 }
 
-/// The rows of the command whose step a pick has taken, where it was the last one. A 431's close posts no
-/// number.
+/// The rows of the command whose step a pick has taken, where it was the last one.
 fn close_rows(ground: &Board, record: &Record) -> Vec<&'static str> {
-    if !record.finished() || record.fitted == 0 || record.of_the_431() {
+    if !record.finished() || record.fitted == 0 {
         return Vec::new();
     }
     let by_code = match record.code {

@@ -42,8 +42,7 @@ const ROWS: [&str; 15] = [
 ];
 
 /// The calls that give 1 for other things too, by the words that the counts have for them.
-const WITH_OTHER_SIZES: [&str; 6] =
-    ["walk", "walk of a 431", "pick", "run by picks", "run as written", "look"];
+const WITH_OTHER_SIZES: [&str; 5] = ["walk", "pick", "run by picks", "run as written", "look"];
 
 /// The row of a call that gave 1 for the last head's maximum and nothing else.
 fn alone(word: &str) -> String {
@@ -62,9 +61,7 @@ pub fn rows(call: &Call, reply: &Reply, ground: &Board, table: &[Record]) -> Vec
         u64::from(sector) < equal.number_of_sectors()
     };
     let plain = match (call, reply, reply.number()) {
-        (Call::Walk { .. }, Reply::Walked(walked), 0) => {
-            walk_rows(ground, &table[..walked.commands])
-        }
+        (_, Reply::Walked(walked), 0) => walk_rows(ground, &table[..walked.commands]),
         (Call::Look { unit, sector }, _, 10) if equal_has((*unit).into(), *sector) => vec![LOOK_10],
         (Call::Place { unit, sector }, _, 10) if equal_has(*unit, *sector) => vec![PLACE_10],
         (Call::Place { unit, .. }, Reply::Placed { place, .. }, 0) => {

@@ -8,7 +8,7 @@ use second::makers::rng::Rng;
 use second::range::Range;
 use second::record::Record;
 
-const MOST: u8 = MOST_ELEMENTS as u8;
+const MOST: u16 = MOST_ELEMENTS as u16;
 /// The longest that a range of a list can be.
 const LONGEST: u32 = 0xFFFF;
 
@@ -18,7 +18,7 @@ pub fn give_list(rng: &mut Rng, memory: u64, record: &mut Record) {
     let bytes = record.data_bytes();
     let ranges =
         if rng.percent(30) { comb(rng, memory, bytes) } else { anywhere(rng, memory, bytes) };
-    record.ranges = ranges.len() as u8;
+    record.ranges = ranges.len() as u16;
     record.list[..ranges.len()].copy_from_slice(&ranges);
     for range in &mut record.list[ranges.len()..] {
         if rng.once_in(4) {
@@ -95,10 +95,10 @@ fn set(play: &mut Play, place: usize, record: Record) {
 
 /// A number of ranges: none, one beside the right one, about the most that there is room for, and
 /// such as have the right one's low bits.
-fn wrong_number(rng: &mut Rng, right: u8) -> u8 {
-    let alike = [right.wrapping_add(64), right.wrapping_add(128)];
+fn wrong_number(rng: &mut Rng, right: u16) -> u16 {
+    let alike = [right.wrapping_add(256), right.wrapping_add(512)];
     let beside = [0, right.saturating_sub(1), right.saturating_add(1)];
-    let most = [MOST, MOST + 1, u8::MAX];
+    let most = [MOST, MOST + 1, u16::MAX];
     let choices = [beside, most].concat();
     rng.one_of(&[choices, alike.to_vec()].concat())
 }

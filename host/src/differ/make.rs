@@ -9,12 +9,8 @@ use crate::differ::ends::chain_about_ends;
 use crate::differ::lists::give_list;
 use crate::differ::over_units::chain_over_units;
 use crate::differ::play::{Play, Played};
-use crate::differ::sister::{
-    chain_about_statuses, chain_of_a_431, lay_chain_of_a_431, tables_of_both,
-};
 use crate::differ::units::{add_units, aimed_at, any_unit, some_unit, spread};
 use second::board::SECTOR_BYTES;
-use second::makers::aim::{Aim, Start};
 use second::makers::chain::{random_chain, Chain};
 use second::makers::ground::{any_drive, ground, limit_ground};
 use second::makers::rng::Rng;
@@ -26,17 +22,14 @@ use second::record::Record;
 pub fn play_chain(board: &Board, seed: u64, n: u64, counts: &mut Counts, tell: bool) -> Played {
     counts.chains += 1;
     let mut play = Play::new(board, Rng::for_case(seed, n), counts, tell);
-    match play.rng.below(136) {
+    match play.rng.below(100) {
         0..=72 => chain(&mut play),
         73..=77 => chain_over_units(&mut play),
         78..=83 => chain_about_ends(&mut play),
         84..=91 => table_by_hand(&mut play),
         92..=95 => sizes(&mut play),
         96 | 97 => places(&mut play),
-        98 | 99 => views(&mut play),
-        100..=121 => chain_of_a_431(&mut play),
-        122..=127 => chain_about_statuses(&mut play),
-        _ => tables_of_both(&mut play),
+        _ => views(&mut play),
     }
 }
 
@@ -57,8 +50,8 @@ pub fn lay_ground(play: &mut Play, make: fn(&mut Rng, &mut Script)) {
     play.sides.set_ground(board);
 }
 
-/// A few random bytes here and there in memory, for a chain to lie over.
-pub fn scatter_bytes(play: &mut Play) {
+/// A random chain, put in memory over a few random bytes.
+fn lay_chain(play: &mut Play) {
     let memory = play.sides.ground().memory.len();
     for _ in 0..play.rng.below(4) {
         if memory >= 4 {
@@ -67,11 +60,6 @@ pub fn scatter_bytes(play: &mut Play) {
             play.sides.put(at, &bytes);
         }
     }
-}
-
-/// A random chain, put in memory over a few random bytes.
-pub fn lay_chain(play: &mut Play) {
-    scatter_bytes(play);
     let aimed = aimed_at(&mut play.rng, play.sides.ground());
     let ground = play.sides.ground();
     let mut chain = random_chain(&mut play.rng, ground.memory_bytes(), &ground.units[aimed].drive);
@@ -81,13 +69,12 @@ pub fn lay_chain(play: &mut Play) {
 
 /// Puts a chain in memory, its lists first.
 pub fn put_chain(play: &mut Play, chain: Chain) {
-    play.aim = chain.aim();
-    play.lists = chain.lists.iter().map(|(at, _)| *at).collect();
-    for (at, bytes) in chain.lists {
+    play.chain = chain;
+    for (at, bytes) in play.chain.lists.clone() {
         play.say(|| format!("link list at {at}: {bytes:02X?}"));
         play.sides.put(at as usize, &bytes);
     }
-    for (at, block) in chain.blocks {
+    for (at, block) in play.chain.blocks.clone() {
         play.say(|| format!("IOPB at {at}: {:02X?}", block.bytes));
         play.sides.put(at as usize, &block.bytes);
     }
@@ -101,12 +88,7 @@ fn chain(play: &mut Play) -> Played {
         let start = false_start(play);
         walk(play, start)?;
     }
-    walk_and_act(play)
-}
-
-/// The chain that was laid: a walk, steps in many ways, then the rest as written.
-pub fn walk_and_act(play: &mut Play) -> Played {
-    let start = play.aim.start;
+    let start = play.chain.start as u32;
     walk(play, start)?;
     let acts = if play.commands == 0 { 1 } else { play.rng.between(1, 6) };
     for _ in 0..acts {
@@ -127,7 +109,7 @@ pub fn walk_and_act(play: &mut Play) -> Played {
 }
 
 /// A walk from a wrong place.
-fn false_start(play: &mut Play) -> Start {
+fn false_start(play: &mut Play) -> u32 {
     let memory = play.sides.ground().memory.len() as u64;
     let last = memory.saturating_sub(30);
     let rng = &mut play.rng;
@@ -138,7 +120,7 @@ fn false_start(play: &mut Play) -> Start {
         3 => last,
         _ => rng.between(0, last),
     };
-    Start::Of753(start)
+    start as u32
 }
 
 /// A table made by hand, with no walk before: IOPBs may meet, as no walk lets them.
@@ -151,7 +133,6 @@ fn table_by_hand(play: &mut Play) -> Played {
         play.sides.set_record(place as usize, record);
     }
     play.commands = records as usize;
-    play.aim = Aim::nowhere();
     for _ in 0..play.rng.between(2, 6) {
         act(play)?;
     }
@@ -167,13 +148,10 @@ fn random_record(play: &mut Play) -> Record {
     let drive = ground.drive_of(unit.into());
     let sectors = drive.number_of_sectors();
     let count = rng.between(1, sectors.min(memory / SECTOR_BYTES).clamp(1, 4));
+    let last_place = memory.saturating_sub(30);
     let command = rng.one_of(&[0, 1, 1, 2, 2, 2, 7]);
-    // mostly one front end, and every other value for the 753
-    let front = if rng.percent(70) { 0 } else { rng.one_of(&[1, 1, 1, 2, 129, 255]) };
-    let bytes = if front == 1 { 24 } else { 30 };
-    let last_place = memory.saturating_sub(bytes);
     let mut record = Record {
-        iopb: rng.one_of(&[0, 2, 3, 4, 5, 30, last_place]).min(last_place) as u32,
+        iopb: rng.one_of(&[0, 2, 3, 4, 30, last_place]).min(last_place) as u32,
         data: rng.between(0, memory.saturating_sub(count * SECTOR_BYTES)) as u32,
         sector: rng.between(0, sectors - count) as u32,
         taken: 0,
@@ -187,7 +165,6 @@ fn random_record(play: &mut Play) -> Record {
         // any number goes with any code
         fitted: if rng.percent(40) { rng.byte() } else { 0 },
         unit,
-        front,
         ..Record::default()
     };
     if rng.percent(45) {
@@ -208,12 +185,8 @@ fn random_record(play: &mut Play) -> Record {
 /// Sizes at and past the limits.
 fn sizes(play: &mut Play) -> Played {
     lay_ground(play, limit_ground);
-    if play.rng.percent(25) {
-        lay_chain_of_a_431(play);
-    } else {
-        lay_chain(play);
-    }
-    let start = play.aim.start;
+    lay_chain(play);
+    let start = play.chain.start as u32;
     walk(play, start)?;
     act(play)?;
     look_around(play)?;
@@ -243,16 +216,13 @@ fn views(play: &mut Play) -> Played {
     let memory = play.rng.bytes(length);
     play.sides.set_memory(memory);
     for _ in 0..play.rng.between(3, 10) {
-        let of_431 = play.rng.percent(40);
-        let bytes = if of_431 { 24 } else { 30 };
         let at = match play.rng.below(10) {
-            0 => play.rng.one_of(&[0xFFFF_FFFF, 0xFFFF_FFFE, (1 << 32) - bytes]),
-            1 => length.saturating_sub(bytes),
-            2 => length.saturating_sub(bytes) + play.rng.between(1, 2),
+            0 => play.rng.one_of(&[0xFFFF_FFFF, 0xFFFF_FFFE, 0xFFFF_FFE2]),
+            1 => length.saturating_sub(30),
+            2 => length.saturating_sub(30) + play.rng.between(1, 2),
             _ => play.rng.below(length + 2),
         };
-        let at = at as u32;
-        play.call(if of_431 { Call::View431 { at } } else { Call::View { at } })?;
+        play.call(Call::View { at: at as u32 })?;
     }
     Ok(())
 }

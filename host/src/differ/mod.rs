@@ -13,8 +13,6 @@ pub mod make;
 pub mod over_units;
 pub mod play;
 pub mod sides;
-pub mod sister;
-pub mod sister_rows;
 pub mod spoil;
 pub mod unit_rows;
 pub mod unit_steps;

@@ -27,8 +27,7 @@ pub fn chain_over_units(play: &mut Play) -> Played {
     play.sides.set_ground(board);
     let chain = over_units(&mut play.rng, play.sides.ground());
     put_chain(play, chain);
-    let start = play.aim.start;
-    walk(play, start)?;
+    walk(play, 0)?;
     pick_backwards(play)?;
     for _ in 0..play.rng.below(3) {
         act(play)?;
@@ -75,7 +74,7 @@ fn over_units(rng: &mut Rng, ground: &Board) -> Chain {
 }
 
 /// Every place once, from the last to the first: one by one, or all in a list.
-pub fn pick_backwards(play: &mut Play) -> Played {
+fn pick_backwards(play: &mut Play) -> Played {
     let (commands, lent) = (play.commands, 32);
     if play.rng.percent(30) {
         let picks = (0..commands as u8).rev().collect();

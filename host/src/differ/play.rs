@@ -5,7 +5,7 @@ use crate::boards::Board;
 use crate::differ::call::{Call, Reply};
 use crate::differ::counts::Counts;
 use crate::differ::sides::Sides;
-use second::makers::aim::Aim;
+use second::makers::chain::Chain;
 use second::makers::rng::Rng;
 
 /// The error says which call it was and what each side gave.
@@ -14,9 +14,7 @@ pub type Played = Result<(), String>;
 pub struct Play<'a> {
     pub rng: Rng,
     pub sides: Sides<'a>,
-    /// The chain that was laid last: where it begins, and where its IOPBs and its link lists lie.
-    pub aim: Aim,
-    pub lists: Vec<u64>,
+    pub chain: Chain,
     /// What the last walk gave, or what a spoiled caller takes it for.
     pub commands: usize,
     counts: &'a mut Counts,
@@ -30,8 +28,7 @@ impl<'a> Play<'a> {
         Play {
             rng,
             sides: Sides::new(board, second::board::Board::default()),
-            aim: Aim::nowhere(),
-            lists: Vec::new(),
+            chain: Chain::default(),
             commands: 0,
             counts,
             calls: 0,

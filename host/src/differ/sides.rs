@@ -5,8 +5,7 @@ use crate::boards::Board;
 use crate::declared::{Ran, Record, Walked, UNITS};
 use crate::differ::call::{Call, Reply};
 use crate::translate::{
-    drive_of, drives_of, lent, lent_mut, record_of, second_fields_431_of, second_fields_of,
-    second_place_of,
+    drive_of, drives_of, lent, lent_mut, record_of, second_fields_of, second_place_of,
 };
 
 /// The records that a caller holds; the lent table is the first of them.
@@ -130,11 +129,6 @@ impl<'a> Sides<'a> {
                 let table = &mut self.table[..*records];
                 Reply::Walked((board.walk)(memory, &lent(images), drives, *start, table))
             }
-            Call::Walk431 { relocation, start, lent: records } => {
-                let (images, table) = (&lent(images), &mut self.table[..*records]);
-                let walked = (board.walk_431)(memory, images, drives, *relocation, *start, table);
-                Reply::Walked(walked)
-            }
             Call::Pick { place, commands, lent } => {
                 let (images, table) = (&mut lent_mut(images), &mut self.table[..*lent]);
                 Reply::Picked((board.pick)(memory, images, drives, table, *commands, *place))
@@ -160,10 +154,6 @@ impl<'a> Sides<'a> {
                 number: (board.view_number)(memory, *at),
                 fields: second_fields_of(&(board.view)(memory, *at)).in_order(),
             },
-            Call::View431 { at } => Reply::Viewed431 {
-                number: (board.view_431_number)(memory, *at),
-                fields: second_fields_431_of(&(board.view_431)(memory, *at)).in_order(),
-            },
         }
     }
 
@@ -172,12 +162,9 @@ impl<'a> Sides<'a> {
         match call {
             Call::Walk { start, lent } => {
                 let table = &mut self.second_table[..*lent];
-                walked_of(second::walk::walk(board, table, u64::from(*start)))
-            }
-            Call::Walk431 { relocation, start, lent } => {
-                let table = &mut self.second_table[..*lent];
-                let (relocation, start) = (u64::from(*relocation), u64::from(*start));
-                walked_of(second::sister::walk::sister_walk(board, table, relocation, start))
+                let reply = second::walk::walk(board, table, u64::from(*start));
+                let commands = reply.commands as usize;
+                Reply::Walked(Walked { number: reply.number, commands })
             }
             Call::Pick { place, commands, lent } => {
                 let table = &mut self.second_table[..*lent];
@@ -205,10 +192,6 @@ impl<'a> Sides<'a> {
                 let (number, fields) = second::iopb::view(board, u64::from(*at));
                 Reply::Viewed { number, fields: fields.in_order() }
             }
-            Call::View431 { at } => {
-                let (number, fields) = second::sister::iopb::sister_view(board, u64::from(*at));
-                Reply::Viewed431 { number, fields: fields.in_order() }
-            }
         }
     }
 
@@ -224,9 +207,4 @@ impl<'a> Sides<'a> {
         };
         Reply::Looked { number, at, length: part.len() }
     }
-}
-
-/// What either walk of the second program gives.
-fn walked_of(reply: second::walk::WalkReply) -> Reply {
-    Reply::Walked(Walked { number: reply.number, commands: reply.commands as usize })
 }

@@ -1,14 +1,13 @@
 //! Spoils one thing, the table, the number of commands, the protect mark of a unit, whether it is there,
 //! or a size, at both sides of its line; calls; and mostly puts it back.
 
-use crate::differ::acts::{call_on_table, look, random_sector, walk_call};
+use crate::differ::acts::{call_on_table, look, random_sector};
 use crate::differ::call::Call;
 use crate::differ::lists::{listed_place, spoil_list};
 use crate::differ::play::{Play, Played};
 use crate::differ::units::{any_unit, some_unit, used_unit};
 use second::board::{IMAGE_LIMIT, SECTOR_BYTES};
 use second::drive::Drive;
-use second::makers::aim::Start;
 use second::makers::ground::other_drive;
 use second::makers::rng::Rng;
 use second::makers::wide_drives::tempting_drive;
@@ -82,7 +81,7 @@ fn spoil_field(play: &mut Play) -> Played {
     let records = play.commands.min(32) + usize::from(play.rng.once_in(8));
     let place = play.rng.below(records.max(1) as u64) as usize;
     let right = play.sides.table()[place];
-    let field = play.rng.one_of(&[0, 0, 0, 1, 2, 3, 3, 4, 4, 5, 6, 7, 8, 8, 9, 9, 9, 10, 10]);
+    let field = play.rng.one_of(&[0, 0, 0, 1, 2, 3, 3, 4, 4, 5, 6, 7, 8, 8, 9, 9, 9]);
     let value = wrong_value(play, &right, field);
     let mut wrong = right;
     set_field(&mut wrong, field, value);
@@ -113,11 +112,7 @@ fn wrong_value(play: &mut Play, record: &Record, field: u64) -> u64 {
     let value = match field {
         // Two records whose status bytes meet.
         0 if rng.percent(45) => other_iopb + rng.below(6),
-        // The end for the record's own front end, or for the other.
-        0 => {
-            let bytes = rng.one_of(&[record.iopb_bytes(), record.iopb_bytes(), 24, 30]);
-            beside(rng, memory.saturating_sub(bytes))
-        }
+        0 => beside(rng, memory.saturating_sub(30)),
         1 => beside(rng, memory.saturating_sub(record.data_bytes())),
         2 => beside(rng, sectors.saturating_sub(u64::from(record.count))),
         3 => beside(rng, record.steps()),
@@ -125,15 +120,12 @@ fn wrong_value(play: &mut Play, record: &Record, field: u64) -> u64 {
         5 => u64::from(record.byte0 & 0xF0) | rng.one_of(&[0, 1, 1, 2, 2, 3, 7, 15]),
         6 => rng.one_of(&[0, 0, 0x10, 0x14, 0x90, 0xFF]),
         // ranges where there were none, or none where there were some
-        7 => rng.one_of(&[0, 1, 2, 32, 33, 0xFF]),
+        7 => rng.one_of(&[0, 1, 2, 32, 33, 0xFFFF]),
         // no number of sectors that would have fitted is wrong, whatever the code
         8 if rng.percent(50) => rng.byte().into(),
         8 => rng.one_of(&[0, 1, 128, 254, 255]),
-        9 if rng.percent(90) => unit.into(),
-        // mostly the other front end; of the values above 1 none is the 431's
-        10 if rng.percent(60) => u64::from(!record.of_the_431()),
-        10 => rng.one_of(&[0, 1, 2, 3, 129, 255]),
-        _ => rng.byte().into(),
+        _ if rng.percent(10) => rng.byte().into(),
+        _ => unit.into(),
     };
     value.min(FIELD_MOST[field as usize])
 }
@@ -237,11 +229,9 @@ fn calls_on_sizes(play: &mut Play, unit: usize) -> Played {
     }
     if play.rng.percent(25) {
         // Its commands are not taken over: the table is still the one of the walk before.
-        let start = 2 * play.rng.below(20);
-        let of_431 = play.rng.percent(40);
-        let start = if of_431 { Start::of_431(start) } else { Start::Of753(start) };
+        let start = 2 * play.rng.below(20) as u32;
         let saved = play.commands;
-        if play.call(walk_call(start, 32))?.number() != 0 {
+        if play.call(Call::Walk { start, lent: 32 })?.number() != 0 {
             play.commands = saved;
         }
     }

@@ -51,8 +51,7 @@ const ROWS: [&str; 19] = [
 ];
 
 /// The calls that ask for the sizes of images.
-const WITH_SIZES: [&str; 6] =
-    ["walk", "walk of a 431", "pick", "run by picks", "run as written", "look"];
+const WITH_SIZES: [&str; 5] = ["walk", "pick", "run by picks", "run as written", "look"];
 
 /// Which units are there: a digit for each that is, a line for each that is not.
 fn there_row(there: [bool; UNITS]) -> String {
@@ -109,7 +108,7 @@ pub fn chosen<const N: usize>(rows: [(bool, &str); N]) -> Vec<String> {
 pub fn rows(call: &Call, reply: &Reply, ground: &Board, table: &[Record]) -> Vec<String> {
     let mut rows = size_rows(call, reply.number(), ground);
     match (call, reply) {
-        (Call::Walk { .. }, Reply::Walked(walked)) if walked.number == 0 => {
+        (_, Reply::Walked(walked)) if walked.number == 0 => {
             rows.push(there_row(ground.units.each_ref().map(|unit| unit.there)));
             rows.extend(table[..walked.commands].iter().flat_map(|r| walked_rows(ground, r)));
         }

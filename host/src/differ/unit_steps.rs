@@ -104,8 +104,7 @@ fn step_rows(ground: &Board, record: &Record) -> Vec<String> {
         rows.push(if record.reads_sectors() { reads_row(own) } else { writes_row(own) });
         rows.extend(chosen([(!first_has(ground, record), FAR)]));
     }
-    // a 431's close posts no byte 2
-    if !record.finished() || record.of_the_431() {
+    if !record.finished() {
         return rows;
     }
     let byte_2 = |unit: u64| if ground.drive_of(unit).protected { 0x13 } else { 0x03 };

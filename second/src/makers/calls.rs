@@ -3,7 +3,7 @@
 
 use crate::board::SECTOR_BYTES;
 use crate::drive::Drive;
-use crate::makers::aim::{Aim, Start};
+use crate::makers::chain::Chain;
 use crate::makers::ground::{fill_image, other_drive};
 use crate::makers::rng::Rng;
 use crate::makers::script::Script;
@@ -12,22 +12,22 @@ use crate::makers::ALL_32_BITS;
 use crate::trial::line::Line;
 
 /// A walk, now and then by the lent form and with other lengths.
-pub fn walk(rng: &mut Rng, script: &mut Script, start: Start) {
+pub fn walk(rng: &mut Rng, script: &mut Script, start: u64) {
     if rng.percent(20) {
         if rng.percent(30) {
             script.say(Line::Lent(rng.one_of(&[0, 31, 32, 33, 39, 40])));
         }
-        script.say(start.lent_walk());
+        script.say(Line::LentWalk(start));
         if script.state.lent >= 32 {
             return;
         }
         script.say(Line::Lent(32));
     }
-    script.say(start.walk());
+    script.say(Line::Walk(start));
 }
 
 /// One thing that a caller may do after the walk.
-pub fn act(rng: &mut Rng, script: &mut Script, aim: &Aim) {
+pub fn act(rng: &mut Rng, script: &mut Script, chain: &Chain) {
     match rng.below(100) {
         0..=25 => {
             for _ in 0..rng.between(1, 4) {
@@ -39,13 +39,13 @@ pub fn act(rng: &mut Rng, script: &mut Script, aim: &Aim) {
         46..=54 => {
             script.say(Line::Written(rng.below(5)));
         }
-        55..=62 => look_around(rng, script, aim),
+        55..=62 => look_around(rng, script, chain),
         63..=65 => {
             script.say(Line::Steps);
         }
         66..=68 => ask_places(rng, script),
         69..=85 => spoil_and_call(rng, script),
-        86..=93 => lent_calls(rng, script, aim),
+        86..=93 => lent_calls(rng, script, chain),
         _ => wrong_size_and_call(rng, script),
     }
 }
@@ -105,7 +105,7 @@ pub fn call_on_table(rng: &mut Rng, script: &mut Script) {
 }
 
 /// Looks at sectors, fields and views, at edges and where the chain lies.
-pub fn look_around(rng: &mut Rng, script: &mut Script, aim: &Aim) {
+pub fn look_around(rng: &mut Rng, script: &mut Script, chain: &Chain) {
     let sector = random_sector(rng, script);
     script.say(Line::Look { unit: script.state.chosen as u64, sector });
     if rng.percent(30) {
@@ -114,8 +114,8 @@ pub fn look_around(rng: &mut Rng, script: &mut Script, aim: &Aim) {
         script.say(Line::Place(rng.one_of(&[sector, other])));
     }
     for _ in 0..rng.between(1, 2) {
-        let address = random_address(rng, script, aim);
-        script.say(aim.seen(rng, address));
+        let address = random_address(rng, script, chain);
+        script.say(if rng.percent(50) { Line::Fields(address) } else { Line::View(address) });
     }
 }
 
@@ -154,24 +154,23 @@ fn end_of_head(rng: &mut Rng, drive: &Drive) -> u64 {
 }
 
 /// An address for a view: at memory's end, past it, or on the chain.
-pub fn random_address(rng: &mut Rng, script: &Script, aim: &Aim) -> u64 {
-    let bytes = aim.start.iopb_bytes();
-    let last = script.state.board.memory_bytes().saturating_sub(bytes);
+pub fn random_address(rng: &mut Rng, script: &Script, chain: &Chain) -> u64 {
+    let last = script.state.board.memory_bytes().saturating_sub(30);
     match rng.below(10) {
         0 => last,
         1 => last + rng.between(1, 2),
-        2 => rng.one_of(&[ALL_32_BITS, ALL_32_BITS - 1, ALL_32_BITS + 1 - bytes]),
+        2 => rng.one_of(&[ALL_32_BITS, ALL_32_BITS - 1, ALL_32_BITS - 29]),
         3 => rng.between(0, last),
-        _ if aim.addresses.is_empty() => rng.below(4),
-        _ => rng.one_of(&aim.addresses),
+        _ if chain.blocks.is_empty() => rng.below(4),
+        _ => chain.blocks[rng.below(chain.blocks.len() as u64) as usize].0,
     }
 }
 
 /// Calls by the lent form, with lent tables below, at and above 32.
-fn lent_calls(rng: &mut Rng, script: &mut Script, aim: &Aim) {
+fn lent_calls(rng: &mut Rng, script: &mut Script, chain: &Chain) {
     script.say(Line::Lent(rng.one_of(&[0, 1, 31, 32, 33, 40, 40])));
     if rng.percent(20) {
-        script.say(aim.start.lent_walk());
+        script.say(Line::LentWalk(chain.start));
     }
     for _ in 0..rng.between(1, 3) {
         let place = random_place(rng, script);
@@ -179,7 +178,7 @@ fn lent_calls(rng: &mut Rng, script: &mut Script, aim: &Aim) {
     }
     if script.state.commands == 0 {
         script.say(Line::Lent(32));
-        script.say(aim.start.lent_walk());
+        script.say(Line::LentWalk(chain.start));
     }
 }
 
@@ -234,9 +233,8 @@ pub fn calls_on_sizes(rng: &mut Rng, script: &mut Script) {
             _ => call_on_table(rng, script),
         }
     }
-    if rng.percent(35) {
+    if rng.percent(25) {
         let start = 2 * rng.below(20);
-        let front = if rng.percent(50) { Start::Of753(start) } else { Start::of_431(start) };
-        script.say(if rng.percent(50) { front.walk() } else { front.lent_walk() });
+        script.say(if rng.percent(50) { Line::Walk(start) } else { Line::LentWalk(start) });
     }
 }

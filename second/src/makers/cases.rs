@@ -1,10 +1,9 @@
 //! Random cases: a board, a chain or a table made by hand, then calls; about one
-//! in ten is about several drives, and about one in three about the 431.
+//! in eight is about several drives.
 //! The seed and the case's number decide everything.
 
 use crate::board::SECTOR_BYTES;
 use crate::drive::Drive;
-use crate::makers::aim::{Aim, Start};
 use crate::makers::calls::{act, ask_places, call_on_table, look_around, random_address, walk};
 use crate::makers::chain::{random_chain, Chain};
 use crate::makers::fitted_cases::fitted_case;
@@ -12,7 +11,6 @@ use crate::makers::ground::{any_drive, ground, limit_ground};
 use crate::makers::random_lists::cut;
 use crate::makers::rng::Rng;
 use crate::makers::script::Script;
-use crate::makers::sister_random::sister_case;
 use crate::makers::spoil::FITTED_TO_TRY;
 use crate::makers::unit_cases::unit_case;
 use crate::makers::wide_cases::wide_case;
@@ -27,12 +25,11 @@ pub fn random_case(seed: u64, n: u64) -> Script {
     let mut script = Script::default();
     script.say(Line::Case(n));
     match rng.below(100) {
-        0..=34 => chain_case(&mut rng, &mut script),
-        35..=69 => sister_case(&mut rng, &mut script),
-        70..=79 => unit_case(&mut rng, &mut script),
-        80..=83 => fitted_case(&mut rng, &mut script),
-        84..=86 => wide_case(&mut rng, &mut script),
-        87..=91 => table_case(&mut rng, &mut script),
+        0..=64 => chain_case(&mut rng, &mut script),
+        65..=77 => unit_case(&mut rng, &mut script),
+        78..=82 => fitted_case(&mut rng, &mut script),
+        83..=85 => wide_case(&mut rng, &mut script),
+        86..=91 => table_case(&mut rng, &mut script),
         92..=94 => view_case(&mut rng, &mut script),
         95 | 96 => place_case(&mut rng, &mut script),
         _ => sizes_case(&mut rng, &mut script),
@@ -48,20 +45,19 @@ fn chain_case(rng: &mut Rng, script: &mut Script) {
     if rng.percent(12) {
         false_start(rng, script);
     }
-    let aim = chain.aim();
-    walk(rng, script, aim.start);
+    walk(rng, script, chain.start);
     // With no commands every act is much the same.
     let acts = if script.state.commands == 0 { 1 } else { rng.between(1, 6) };
     for _ in 0..acts {
-        act(rng, script, &aim);
+        act(rng, script, &chain);
     }
     if rng.percent(75) {
         script.say(Line::Written(rng.one_of(&[u64::MAX, 100_000, 4_294_967_296])));
-        look_around(rng, script, &aim);
+        look_around(rng, script, &chain);
     }
     if rng.percent(8) {
         // The same chain again, over whatever the data left of it.
-        walk(rng, script, aim.start);
+        walk(rng, script, chain.start);
         script.say(Line::Written(rng.below(6)));
     }
 }
@@ -99,7 +95,7 @@ fn false_start(rng: &mut Rng, script: &mut Script) {
         3 => last,
         _ => rng.between(0, last),
     };
-    walk(rng, script, Start::Of753(start));
+    walk(rng, script, start);
 }
 
 /// A table made by hand, with no walk before.
@@ -111,8 +107,9 @@ fn table_case(rng: &mut Rng, script: &mut Script) {
         script.record(place, record);
     }
     script.say(Line::Commands(records));
+    let chain = Chain::default();
     for _ in 0..rng.between(2, 6) {
-        act(rng, script, &Aim::nowhere());
+        act(rng, script, &chain);
     }
     script.say(Line::Written(u64::MAX));
 }
@@ -158,7 +155,7 @@ pub fn random_record(rng: &mut Rng, memory: u64, drive: &Drive) -> Record {
 fn give_ranges(rng: &mut Rng, memory: u64, record: &mut Record) {
     let parts = rng.one_of(&[1, 2, 2, 3, 4, 5, 7, 32]);
     let lengths = cut(rng, record.data_bytes(), parts);
-    record.ranges = lengths.len() as u8;
+    record.ranges = lengths.len() as u16;
     for (range, length) in record.list.iter_mut().zip(lengths) {
         let address = rng.between(0, memory.saturating_sub(length));
         *range = Range { address: address as u32, length: length as u32 };
@@ -178,8 +175,9 @@ fn view_case(rng: &mut Rng, script: &mut Script) {
         let bytes = rng.between(1, length.min(64));
         script.say(Line::Put { address: rng.between(0, length - bytes), bytes: rng.bytes(bytes) });
     }
+    let chain = Chain::default();
     for _ in 0..rng.between(3, 10) {
-        let near = random_address(rng, script, &Aim::nowhere());
+        let near = random_address(rng, script, &chain);
         let address = if rng.percent(60) { rng.below(length + 2) } else { near };
         script.say(if rng.percent(50) { Line::Fields(address) } else { Line::View(address) });
     }
@@ -200,8 +198,8 @@ fn sizes_case(rng: &mut Rng, script: &mut Script) {
     limit_ground(rng, script);
     let chain = random_chain(rng, script.state.board.memory_bytes(), script.state.drive());
     lay(rng, script, &chain);
-    walk(rng, script, chain.aim().start);
+    walk(rng, script, chain.start);
     call_on_table(rng, script);
-    look_around(rng, script, &chain.aim());
+    look_around(rng, script, &chain);
     script.say(Line::Written(u64::MAX));
 }

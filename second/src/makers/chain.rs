@@ -5,9 +5,8 @@ use crate::board::SECTOR_BYTES;
 use crate::drive::Drive;
 use crate::iopb::IOPB_BYTES;
 use crate::link_list::ELEMENT_BYTES;
-use crate::makers::aim::{Aim, Start};
 use crate::makers::block::Block;
-use crate::makers::lay::{data_address, first_sector, Lay, Shape, Transfer, OF_753};
+use crate::makers::lay::{data_address, first_sector, Lay, Transfer};
 use crate::makers::random_lists::{list_address, list_fault, random_ranges};
 use crate::makers::rng::Rng;
 use crate::makers::script::element_bytes;
@@ -23,19 +22,11 @@ pub struct Chain {
     pub blocks: Vec<(u64, Block)>,
 }
 
-impl Chain {
-    /// The chain as the calls after its walk see it.
-    pub fn aim(&self) -> Aim {
-        let addresses = self.blocks.iter().map(|(address, _)| *address).collect();
-        Aim { start: Start::Of753(self.start), addresses }
-    }
-}
-
 /// A random chain for so many bytes of memory and one drive. In a memory too
 /// small for an IOPB there is none, and the start is anywhere.
 pub fn random_chain(rng: &mut Rng, memory: u64, drive: &Drive) -> Chain {
     let number = chain_length(rng);
-    let addresses = places(rng, memory, number, OF_753);
+    let addresses = places(rng, memory, number);
     if addresses.is_empty() {
         return Chain { start: rng.below(8), ..Chain::default() };
     }
@@ -63,7 +54,7 @@ fn list_bytes(memory: u64, transfer: &Transfer) -> Option<(u64, Vec<u8>)> {
 }
 
 /// Mostly short, but every length from 1 to 32 comes up.
-pub fn chain_length(rng: &mut Rng) -> u64 {
+fn chain_length(rng: &mut Rng) -> u64 {
     match rng.below(100) {
         0..=58 => rng.between(1, 5),
         59..=82 => rng.between(1, 11),
@@ -73,20 +64,19 @@ pub fn chain_length(rng: &mut Rng) -> u64 {
 }
 
 /// Even addresses that share no byte, in any order and spacing.
-pub fn places(rng: &mut Rng, memory: u64, wanted: u64, shape: Shape) -> Vec<u64> {
-    let number = wanted.min(memory / shape.bytes);
+fn places(rng: &mut Rng, memory: u64, wanted: u64) -> Vec<u64> {
+    let number = wanted.min(memory / IOPB_BYTES);
     if number == 0 {
         return Vec::new();
     }
-    let least = shape.bytes / 2;
     let spacing = match rng.below(4) {
-        0 => shape.bytes,
+        0 => IOPB_BYTES,
         1 => 32,
-        2 => 2 * rng.between(least, 40),
-        _ => 2 * rng.between(least, 150),
+        2 => 2 * rng.between(15, 40),
+        _ => 2 * rng.between(15, 150),
     };
-    let spacing = spacing.min(memory / number / 2 * 2).max(shape.bytes);
-    let slack = memory - spacing * (number - 1) - shape.bytes;
+    let spacing = spacing.min(memory / number / 2 * 2).max(IOPB_BYTES);
+    let slack = memory - spacing * (number - 1) - IOPB_BYTES;
     let base = match rng.below(4) {
         0 => 0,
         1 => slack,
@@ -120,7 +110,6 @@ pub fn commands(
         sectors: drive.number_of_sectors(),
         drive,
         addresses,
-        shape: OF_753,
         near: rng.one_of(&[0, 25, 60, 90]),
         lists,
     };
@@ -159,7 +148,7 @@ fn block_for(rng: &mut Rng, drive: &Drive, command: u8, transfer: &Transfer) -> 
     }
 }
 
-pub fn transfer(rng: &mut Rng, lay: &Lay, earlier: &[Transfer]) -> Transfer {
+fn transfer(rng: &mut Rng, lay: &Lay, earlier: &[Transfer]) -> Transfer {
     let fit = lay.sectors.min(lay.memory / SECTOR_BYTES).max(1);
     let wanted = match rng.below(100) {
         0..=44 => 1,
@@ -225,7 +214,7 @@ fn fault(rng: &mut Rng, lay: &Lay, block: Block, transfer: &Transfer) -> Block {
 
 /// A head and a sector past one of the two maxima, where the last head is
 /// shorter: on the last head between the two, or on another past the larger.
-pub fn past_one_maximum(rng: &mut Rng, drive: &Drive) -> (u64, u64) {
+fn past_one_maximum(rng: &mut Rng, drive: &Drive) -> (u64, u64) {
     let last_head = u64::from(drive.max_head);
     let others = u64::from(drive.max_sector);
     let past_last = drive.sectors_of(last_head);
@@ -241,7 +230,7 @@ pub fn number_in(block: &Block, from: usize, bytes: usize) -> u64 {
     block.bytes[from..from + bytes].iter().fold(0, |sum, byte| sum * 256 + u64::from(*byte))
 }
 
-pub fn count_past_drive(rng: &mut Rng, sectors: u64, first: u64) -> u64 {
+fn count_past_drive(rng: &mut Rng, sectors: u64, first: u64) -> u64 {
     let past = sectors - first.min(sectors) + 1;
     rng.one_of(&[past, past, past + 1, 0x8000, 0xFFFF]).min(0xFFFF)
 }

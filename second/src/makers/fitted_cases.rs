@@ -32,13 +32,13 @@ pub fn fitted_case(rng: &mut Rng, script: &mut Script) {
         }
     }
     lay(rng, script, &chain);
-    walk(rng, script, chain.aim().start);
+    walk(rng, script, chain.start);
     for _ in 0..rng.between(1, 3) {
         change(rng, script, &chain);
         call_on_table(rng, script);
     }
     if rng.percent(40) {
-        act(rng, script, &chain.aim());
+        act(rng, script, &chain);
     }
     script.say(Line::Written(u64::MAX));
     for (address, _) in chain.blocks.iter().take(6) {

@@ -7,20 +7,6 @@ use crate::drive::Drive;
 use crate::iopb::IOPB_BYTES;
 use crate::makers::rng::Rng;
 use crate::range::Range;
-use crate::sister::iopb::{SISTER_BYTES, STATUS_AT};
-
-/// How large an IOPB is, and where its status bytes are.
-#[derive(Clone, Copy, Debug)]
-pub struct Shape {
-    pub bytes: u64,
-    pub status_at: u64,
-    pub status_bytes: u64,
-}
-
-/// An IOPB of the 753.
-pub const OF_753: Shape = Shape { bytes: IOPB_BYTES, status_at: 0, status_bytes: 4 };
-/// An IOPB of the 431.
-pub const OF_431: Shape = Shape { bytes: SISTER_BYTES, status_at: STATUS_AT, status_bytes: 2 };
 
 /// What one transfer asks, before anything is spoiled.
 #[derive(Clone, Debug)]
@@ -41,7 +27,6 @@ pub struct Lay<'a> {
     pub sectors: u64,
     pub drive: &'a Drive,
     pub addresses: &'a [u64],
-    pub shape: Shape,
     pub near: u64,
     pub lists: u64,
 }
@@ -81,25 +66,24 @@ pub fn data_address(rng: &mut Rng, lay: &Lay, bytes: u64, earlier: &[Transfer]) 
             rng.between(0, last)
         }
     } else if earlier.is_empty() || rng.percent(45) {
-        near_status(rng, bytes, lay)
+        near_status(rng, bytes, lay.addresses)
     } else {
         near_data(rng, bytes, earlier)
     };
     address.min(last)
 }
 
-/// Just beside, or over, the status bytes of some IOPB of the chain.
-fn near_status(rng: &mut Rng, bytes: u64, lay: &Lay) -> u64 {
-    let status = rng.one_of(lay.addresses) + lay.shape.status_at;
-    let status_bytes = lay.shape.status_bytes;
+/// Just beside, or over, the four status bytes of some IOPB of the chain.
+fn near_status(rng: &mut Rng, bytes: u64, addresses: &[u64]) -> u64 {
+    let status = rng.one_of(addresses);
     let before = status.saturating_sub(bytes);
     match rng.below(8) {
-        0 => status + status_bytes,
-        1 => status + status_bytes - 1,
+        0 => status + 4,
+        1 => status + 3,
         2 => status,
         3 => before,
         4 => before + 1,
-        5 => before + status_bytes,
+        5 => before + 4,
         _ => status.saturating_sub(rng.below(bytes.max(1))),
     }
 }
@@ -128,7 +112,7 @@ pub fn apart(rng: &mut Rng, lay: &Lay, bytes: u64, others: &[Range]) -> u64 {
     let mut address = 0;
     for _ in 0..12 {
         address = rng.between(0, last);
-        let iopb = lay.addresses.iter().any(|iopb| meet(address, *iopb, iopb + lay.shape.bytes));
+        let iopb = lay.addresses.iter().any(|iopb| meet(address, *iopb, iopb + IOPB_BYTES));
         let other =
             others.iter().any(|range| meet(address, range.bytes().start, range.bytes().end));
         if !iopb && !other {

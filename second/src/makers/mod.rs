@@ -1,7 +1,6 @@
 //! The makers of cases and decks: random ones, which a seed decides, and
 //! those made by hand.
 
-pub mod aim;
 pub mod block;
 pub mod calls;
 pub mod cases;
@@ -15,11 +14,6 @@ pub mod lines;
 pub mod random_lists;
 pub mod rng;
 pub mod script;
-pub mod sister_block;
-pub mod sister_calls;
-pub mod sister_cases;
-pub mod sister_chain;
-pub mod sister_random;
 pub mod spoil;
 pub mod spoil_ranges;
 pub mod unit_calls;

@@ -6,7 +6,6 @@ use crate::board::SECTOR_BYTES;
 use crate::drive::Drive;
 use crate::link_list::ELEMENT_BYTES;
 use crate::makers::block::Block;
-use crate::makers::sister_block::SisterBlock;
 use crate::range::Range;
 use crate::record::Record;
 use crate::trial::answer::Answer;
@@ -77,10 +76,6 @@ impl Script {
     }
 
     pub fn block(&mut self, address: u64, block: Block) {
-        self.say(Line::Put { address, bytes: block.bytes.to_vec() });
-    }
-
-    pub fn sister_block(&mut self, address: u64, block: SisterBlock) {
         self.say(Line::Put { address, bytes: block.bytes.to_vec() });
     }
 

@@ -10,16 +10,11 @@ use crate::makers::script::Script;
 use crate::makers::spoil_ranges::{listed_place, spoil_ranges};
 use crate::makers::ALL_32_BITS;
 use crate::record::Record;
-use crate::sister::iopb::SISTER_BYTES;
 use crate::trial::line::{field_of, Line, FIELD_MOST};
 
 /// What a record may say of sectors that would have fitted: both ends of a
 /// byte, and numbers between.
 pub const FITTED_TO_TRY: [u64; 7] = [0, 1, 77, 128, 163, 254, 255];
-
-/// What a record may say of its front end: both of them, and others that count
-/// as the 753.
-pub const FRONTS_TO_TRY: [u64; 8] = [0, 0, 1, 1, 1, 2, 129, 255];
 
 /// Spoils one thing, calls, and in most cases puts it back.
 pub fn spoil_and_call(rng: &mut Rng, script: &mut Script) {
@@ -66,7 +61,7 @@ fn spoil_field(rng: &mut Rng, script: &mut Script) {
     let records = script.state.commands.min(32) + u64::from(rng.once_in(8));
     let place = rng.below(records.max(1));
     let record = script.state.table[place as usize];
-    let field = rng.one_of(&[0, 0, 0, 1, 2, 3, 3, 4, 4, 5, 6, 7, 8, 10, 10]);
+    let field = rng.one_of(&[0, 0, 0, 1, 2, 3, 3, 4, 4, 5, 6, 7, 8]);
     let value = wrong_value(rng, script, &record, field);
     script.spoil(place, field, value);
     if rng.once_in(12) {
@@ -97,14 +92,8 @@ fn wrong_value(rng: &mut Rng, script: &Script, record: &Record, field: u64) -> u
             let other = rng.below(script.state.commands.clamp(1, 32));
             u64::from(script.state.table[other as usize].iopb) + rng.below(6)
         }
-        0 if rng.once_in(4) => {
-            rng.one_of(&[memory, ALL_32_BITS, ALL_32_BITS + 1 - record.iopb_bytes()])
-        }
-        // The end for the record's own front end, or for the other.
-        0 => {
-            let bytes = rng.one_of(&[record.iopb_bytes(), IOPB_BYTES, SISTER_BYTES]);
-            rng.one_of(&either_side(memory.saturating_sub(bytes)))
-        }
+        0 if rng.once_in(4) => rng.one_of(&[memory, ALL_32_BITS, ALL_32_BITS - 29]),
+        0 => rng.one_of(&either_side(memory.saturating_sub(IOPB_BYTES))),
         1 if rng.once_in(4) => rng.one_of(&[ALL_32_BITS, (1 << 32) - SECTOR_BYTES, memory]),
         1 => rng.one_of(&either_side(memory.saturating_sub(record.data_bytes()))),
         2 if rng.once_in(3) => {
@@ -118,8 +107,7 @@ fn wrong_value(rng: &mut Rng, script: &Script, record: &Record, field: u64) -> u
         5 => u64::from(record.byte0 & 0xF0) | rng.one_of(&[0, 1, 1, 2, 2, 3, 7, 15]),
         6 => rng.one_of(&[0, 0, 0x10, 0x14, 0x90, 0xFF, taken % 256]),
         // Ranges where there were none, of length 0 or left from before.
-        7 => rng.one_of(&[0, 1, 2, 32, 33, 64, 128, 254, 255]),
-        10 => rng.one_of(&FRONTS_TO_TRY),
+        7 => rng.one_of(&[0, 1, 2, 32, 33, 256, 257, 65_503, 65_535]),
         // Any number of sectors that would have fitted: none is wrong.
         _ => rng.one_of(&FITTED_TO_TRY),
     };

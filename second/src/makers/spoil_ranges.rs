@@ -44,11 +44,11 @@ pub fn spoil_ranges(rng: &mut Rng, script: &mut Script, place: u64) {
     }
 }
 
-/// Another number of ranges. Some of the larger ones would be right in 5 bits,
-/// in 6 or in 7, or as a number with a sign.
+/// Another number of ranges. Some of the larger ones would be right in 8 bits,
+/// or in 15, or as a number with a sign.
 fn wrong_number(rng: &mut Rng, right: u64) -> u64 {
     let few = [0, right - 1, right + 1, 32, 33];
-    let many = [right + 32, right + 64, right + 128, 254, 256 - right, 255];
+    let many = [right + 256, right + 0x8000, 255, 257, 65_536 - right, 65_535];
     let number = if rng.percent(60) { rng.one_of(&few) } else { rng.one_of(&many) };
     // what is spoiled already may be the largest number that there is
     number.min(FIELD_MOST[RANGES_FIELD as usize])

@@ -4,8 +4,8 @@
 
 use crate::board::UNITS;
 use crate::drive::Drive;
-use crate::makers::aim::{Aim, Start};
 use crate::makers::calls::{call_on_table, calls_on_sizes};
+use crate::makers::chain::Chain;
 use crate::makers::ground::small_drive;
 use crate::makers::rng::Rng;
 use crate::makers::script::Script;
@@ -19,7 +19,7 @@ const UNIT_FIELD: u64 = 9;
 
 /// One thing that a caller may do with several drives; the chosen unit is the
 /// one that changes.
-pub fn unit_act(rng: &mut Rng, script: &mut Script, aim: &Aim) {
+pub fn unit_act(rng: &mut Rng, script: &mut Script, chain: &Chain) {
     match rng.below(20) {
         0..=3 => looks(rng, script),
         4..=6 => some_calls(rng, script),
@@ -28,7 +28,7 @@ pub fn unit_act(rng: &mut Rng, script: &mut Script, aim: &Aim) {
         13 | 14 => mark(rng, script),
         15 => lend_other(rng, script),
         16 | 17 => wrong_size(rng, script),
-        18 => name_another_unit(rng, script, aim),
+        18 => name_another_unit(rng, script, chain),
         _ => swap_drive(rng, script),
     }
 }
@@ -129,11 +129,10 @@ fn wrong_size(rng: &mut Rng, script: &mut Script) {
 }
 
 /// An IOPB names another unit after the walk: that has no say.
-fn name_another_unit(rng: &mut Rng, script: &mut Script, aim: &Aim) {
-    if !aim.addresses.is_empty() {
-        // byte 5 of the 753's IOPB, byte 0 of the 431's
-        let at = if matches!(aim.start, Start::Of753(_)) { 5 } else { 0 };
-        script.put(rng.one_of(&aim.addresses) + at, &[rng.byte()]);
+fn name_another_unit(rng: &mut Rng, script: &mut Script, chain: &Chain) {
+    if !chain.blocks.is_empty() {
+        let at = rng.below(chain.blocks.len() as u64) as usize;
+        script.put(chain.blocks[at].0 + 5, &[rng.byte()]);
     }
     call_on_table(rng, script);
 }

@@ -27,9 +27,9 @@ pub fn unit_case(rng: &mut Rng, script: &mut Script) {
         choose(rng, script);
         // The other makers ask the chosen unit for its drive and its image.
         if script.state.unit().there && script.state.unit().image_right() && rng.percent(35) {
-            act(rng, script, &chain.aim());
+            act(rng, script, &chain);
         } else {
-            unit_act(rng, script, &chain.aim());
+            unit_act(rng, script, &chain);
         }
     }
     script.say(Line::Written(u64::MAX));
@@ -41,7 +41,7 @@ pub fn unit_case(rng: &mut Rng, script: &mut Script) {
 }
 
 /// Lends something for every unit, and says which are there.
-pub fn unit_ground(rng: &mut Rng, script: &mut Script) {
+fn unit_ground(rng: &mut Rng, script: &mut Script) {
     let length = if rng.once_in(4) { 4_096 } else { rng.between(900, 8_192) };
     script.say(Line::Memory { length, a: rng.byte(), b: rng.byte() });
     // Every way comes, those with several drives somewhat more often.
@@ -95,7 +95,7 @@ pub fn lend_anything(rng: &mut Rng, script: &mut Script) {
 }
 
 /// Chooses a unit, mostly one that is there.
-pub fn choose(rng: &mut Rng, script: &mut Script) {
+fn choose(rng: &mut Rng, script: &mut Script) {
     let unit = some_unit(rng, &script.state.board, 85, 0).min(UNITS - 1);
     script.say(Line::Unit(unit));
 }
@@ -123,7 +123,7 @@ fn walked(rng: &mut Rng, script: &mut Script) -> Chain {
         *block = on_some_unit(rng, board, &drive, *block);
     }
     lay(rng, script, &chain);
-    walk(rng, script, chain.aim().start);
+    walk(rng, script, chain.start);
     chain
 }
 
@@ -152,7 +152,7 @@ fn twins(rng: &mut Rng, script: &mut Script) -> Chain {
     }
     let chain = Chain { start: 0, blocks, ..Chain::default() };
     lay(rng, script, &chain);
-    walk(rng, script, chain.aim().start);
+    walk(rng, script, 0);
     let mut order: Vec<u8> = (0..commands as u8).rev().collect();
     if rng.percent(60) {
         rng.shuffle(&mut order);

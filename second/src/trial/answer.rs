@@ -5,13 +5,11 @@ use crate::bench::BenchReply;
 use crate::iopb::Fields;
 use crate::place::Place;
 use crate::run::{PicksReply, WrittenReply};
-use crate::sister::iopb::SisterFields;
 use crate::trial::digest::{digest, digest_end_to_end, digest_of_records};
 use crate::trial::state::State;
 use crate::walk::WalkReply;
 
-/// `word` tells the lent form of a call from the other, and a walk of the 431
-/// from one of the 753.
+/// `word` tells the lent form of a call from the other.
 #[derive(Clone, Debug, PartialEq, Eq)]
 pub enum Answer {
     /// The line set something, and prints nothing.
@@ -40,11 +38,6 @@ pub enum Answer {
     View {
         number: u8,
         fields: Fields,
-    },
-    Fields431(SisterFields),
-    View431 {
-        number: u8,
-        fields: SisterFields,
     },
     Deck(BenchReply),
 }
@@ -76,14 +69,8 @@ impl Answer {
             Answer::Place { number, place: Place { cylinder, head, sector } } => {
                 format!("place {number} {cylinder} {head} {sector}")
             }
-            Answer::Fields(fields) => format!("fields{}", in_decimal(&fields.in_order())),
-            Answer::View { number, fields } => {
-                format!("view {number}{}", in_decimal(&fields.in_order()))
-            }
-            Answer::Fields431(fields) => format!("fields431{}", in_decimal(&fields.in_order())),
-            Answer::View431 { number, fields } => {
-                format!("view431 {number}{}", in_decimal(&fields.in_order()))
-            }
+            Answer::Fields(fields) => format!("fields{}", in_decimal(fields)),
+            Answer::View { number, fields } => format!("view {number}{}", in_decimal(fields)),
         };
         vec![line]
     }
@@ -98,6 +85,6 @@ fn digests(state: &State) -> String {
     format!("{memory:08x} {image:08x} {table:08x}")
 }
 
-fn in_decimal(fields: &[u64]) -> String {
-    fields.iter().map(|field| format!(" {field}")).collect()
+fn in_decimal(fields: &Fields) -> String {
+    fields.in_order().iter().map(|field| format!(" {field}")).collect()
 }

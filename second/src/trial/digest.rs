@@ -28,7 +28,8 @@ pub fn digest_of_records(table: &[Record]) -> u64 {
         bytes.extend(record.count.to_be_bytes());
         bytes.push(record.byte0);
         bytes.push(record.code);
-        bytes.extend([record.ranges, record.front, record.fitted, record.unit]);
+        bytes.extend(record.ranges.to_be_bytes());
+        bytes.extend([record.fitted, record.unit]);
         for (range, unused) in record.list.iter().zip(record.unused) {
             let length = u16::try_from(range.length).expect("an element's length has 16 bits");
             bytes.extend(range.address.to_be_bytes());

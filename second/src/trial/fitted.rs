@@ -155,8 +155,7 @@ fn sectors_in_ranges(board: &Board, record: &Record) -> u64 {
 /// The rows of a step, where it closes its command; memory and record are those
 /// before the step.
 pub fn step_rows(board: &Board, record: &Record) -> Vec<&'static str> {
-    // The 431 posts no such number.
-    if record.remaining() != 1 || record.of_the_431() {
+    if record.remaining() != 1 {
         return Vec::new();
     }
     let now = fields_at(board, u64::from(record.iopb));

@@ -34,8 +34,8 @@ const EQUAL_PLACE: &str = "place 10, equal heads would have it";
 const PLACE_LAST: &str = "place 0 on a shorter last head";
 
 /// The calls that number 1 is given by, but for `place`, which has no image.
-pub const REFUSED_BY_ONE: [&str; 9] =
-    ["walk", "lentwalk", "walk431", "lentwalk431", "pick", "lentpick", "picks", "written", "look"];
+pub const REFUSED_BY_ONE: [&str; 7] =
+    ["walk", "lentwalk", "pick", "lentpick", "picks", "written", "look"];
 
 /// The row for a call that got 1 for the last head's maximum and for nothing
 /// else.

@@ -21,10 +21,10 @@ const BITS_16: u64 = 0xFFFF;
 const BITS_32: u64 = 0xFFFF_FFFF;
 
 /// The fields of a record before its ranges.
-pub const FIELDS: u64 = 11;
+pub const FIELDS: u64 = 10;
 /// The most that each of these fields may be, in order.
 pub const FIELD_MOST: [u64; FIELDS as usize] =
-    [BITS_32, BITS_32, BITS_32, BITS_32, BITS_16, BITS_8, BITS_8, BITS_8, BITS_8, BITS_8, BITS_8];
+    [BITS_32, BITS_32, BITS_32, BITS_32, BITS_16, BITS_8, BITS_8, BITS_16, BITS_8, BITS_8];
 
 #[derive(Clone, Debug, PartialEq, Eq)]
 pub enum Line {
@@ -51,7 +51,7 @@ pub enum Line {
     },
     Drive(Drive),
     There(bool),
-    /// A record by its eleven fields; its ranges are all 0.
+    /// A record by its ten fields; its ranges are all 0.
     Record {
         place: u64,
         record: Record,
@@ -82,17 +82,6 @@ pub enum Line {
     View(u64),
     LentWalk(u64),
     LentPick(u64),
-    /// The calls of the 431. A walk has a relocation word and a start word.
-    Walk431 {
-        relocation: u64,
-        start: u64,
-    },
-    LentWalk431 {
-        relocation: u64,
-        start: u64,
-    },
-    Fields431(u64),
-    View431(u64),
     Deck(Vec<u8>),
 }
 
@@ -213,7 +202,7 @@ fn record(fields: &[u64]) -> Result<Record, String> {
     Ok(record)
 }
 
-/// Sets one of the eleven fields of a record, by its number in the format.
+/// Sets one of the ten fields of a record, by its number in the format.
 pub fn set_field(record: &mut Record, field: u64, value: u64) {
     match field {
         0 => record.iopb = value as u32,
@@ -223,15 +212,14 @@ pub fn set_field(record: &mut Record, field: u64, value: u64) {
         4 => record.count = value as u16,
         5 => record.byte0 = value as u8,
         6 => record.code = value as u8,
-        7 => record.ranges = value as u8,
+        7 => record.ranges = value as u16,
         8 => record.fitted = value as u8,
         9 => record.unit = value as u8,
-        10 => record.front = value as u8,
-        _ => unreachable!("the format has fields 0 to 10"),
+        _ => unreachable!("the format has fields 0 to 9"),
     }
 }
 
-/// One of the eleven fields of a record, by its number in the format.
+/// One of the ten fields of a record, by its number in the format.
 pub fn field_of(record: &Record, field: u64) -> u64 {
     match field {
         0 => u64::from(record.iopb),
@@ -244,8 +232,7 @@ pub fn field_of(record: &Record, field: u64) -> u64 {
         7 => u64::from(record.ranges),
         8 => u64::from(record.fitted),
         9 => u64::from(record.unit),
-        10 => u64::from(record.front),
-        _ => unreachable!("the format has fields 0 to 10"),
+        _ => unreachable!("the format has fields 0 to 9"),
     }
 }
 
@@ -266,25 +253,6 @@ fn calling_line(word: &str, numbers: &[u64]) -> Result<Option<Line>, String> {
         ("lentwalk", [start]) => Line::LentWalk(up_to(BITS_32, *start)?),
         ("lentpick", [place]) => Line::LentPick(up_to(BITS_32, *place)?),
         ("deck", deck) => Line::Deck(bytes(deck, MOST_DECK)?),
-        _ => return sister_line(word, numbers),
-    };
-    Ok(Some(line))
-}
-
-/// A line that calls the 431's front end, or none if the word and numbers fit no
-/// such.
-fn sister_line(word: &str, numbers: &[u64]) -> Result<Option<Line>, String> {
-    let line = match (word, numbers) {
-        ("walk431", [relocation, start]) => Line::Walk431 {
-            relocation: up_to(BITS_16, *relocation)?,
-            start: up_to(BITS_16, *start)?,
-        },
-        ("lentwalk431", [relocation, start]) => Line::LentWalk431 {
-            relocation: up_to(BITS_16, *relocation)?,
-            start: up_to(BITS_16, *start)?,
-        },
-        ("fields431", [address]) => Line::Fields431(up_to(BITS_32, *address)?),
-        ("view431", [address]) => Line::View431(up_to(BITS_32, *address)?),
         _ => return Ok(None),
     };
     Ok(Some(line))
@@ -351,12 +319,6 @@ fn write_calling(out: &mut fmt::Formatter<'_>, line: &Line) -> fmt::Result {
         Line::View(address) => write!(out, "view {address}"),
         Line::LentWalk(start) => write!(out, "lentwalk {start}"),
         Line::LentPick(place) => write!(out, "lentpick {place}"),
-        Line::Walk431 { relocation, start } => write!(out, "walk431 {relocation} {start}"),
-        Line::LentWalk431 { relocation, start } => {
-            write!(out, "lentwalk431 {relocation} {start}")
-        }
-        Line::Fields431(address) => write!(out, "fields431 {address}"),
-        Line::View431(address) => write!(out, "view431 {address}"),
         Line::Deck(deck) => {
             write!(out, "deck")?;
             list(out, deck)

@@ -48,20 +48,15 @@ pub fn step_rows(board: &Board, record: &Record) -> Vec<&'static str> {
     if !record.is_transfer() {
         return Vec::new();
     }
-    let of_753 = !record.of_the_431();
     let sgm = record.byte0 & 0x10 != 0;
     if !record.has_list() {
-        return if sgm && of_753 { vec![NO_LIST] } else { Vec::new() };
+        return if sgm { vec![NO_LIST] } else { Vec::new() };
     }
     let ranges = record.data_ranges();
     let mut rows = straddle_rows(record, &ranges);
     rows.extend(twice_rows(board, record, &ranges));
     if ranges.iter().any(|range| range.address % 2 == 1) {
         rows.push(ODD_ADDRESS);
-    }
-    // The 431 knows neither SGM nor lists in memory.
-    if !of_753 {
-        return rows;
     }
     if !sgm {
         rows.push(NO_SGM);
@@ -126,7 +121,7 @@ fn twice_rows(board: &Board, record: &Record, ranges: &[Range]) -> Vec<&'static 
 
 /// The same record with other ranges; with none it touches no data.
 fn with_ranges(record: &Record, ranges: &[Range]) -> Record {
-    let mut other = Record { ranges: ranges.len().max(1) as u8, ..*record };
+    let mut other = Record { ranges: ranges.len().max(1) as u16, ..*record };
     other.list[0] = Range::default();
     other.list[..ranges.len()].copy_from_slice(ranges);
     other

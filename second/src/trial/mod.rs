@@ -8,8 +8,6 @@ pub mod last_head;
 pub mod line;
 pub mod list_steps;
 pub mod list_walks;
-pub mod sister_steps;
-pub mod sister_walks;
 pub mod state;
 pub mod stream;
 pub mod tally;

@@ -10,11 +10,9 @@ use crate::pick::pick;
 use crate::place::place;
 use crate::record::{Record, MOST_COMMANDS};
 use crate::run::{run_picks, run_written};
-use crate::sister::iopb::{sister_fields_at, sister_view};
-use crate::sister::walk::sister_walk;
 use crate::trial::answer::Answer;
 use crate::trial::line::{set_field, Line, TABLE_RECORDS};
-use crate::walk::{walk, WalkReply};
+use crate::walk::walk;
 
 /// The calls that are not lent use the first 32 records.
 const BY_VALUE: usize = MOST_COMMANDS as usize;
@@ -88,22 +86,8 @@ impl State {
 
     fn call(&mut self, line: &Line) -> Answer {
         match line {
-            Line::Walk(start) => {
-                self.walk_with("walk", BY_VALUE, |board, table| walk(board, table, *start))
-            }
-            Line::LentWalk(start) => {
-                self.walk_with("lentwalk", self.lent, |board, table| walk(board, table, *start))
-            }
-            Line::Walk431 { relocation, start } => {
-                self.walk_with("walk431", BY_VALUE, |board, table| {
-                    sister_walk(board, table, *relocation, *start)
-                })
-            }
-            Line::LentWalk431 { relocation, start } => {
-                self.walk_with("lentwalk431", self.lent, |board, table| {
-                    sister_walk(board, table, *relocation, *start)
-                })
-            }
+            Line::Walk(start) => self.walk_with("walk", BY_VALUE, *start),
+            Line::LentWalk(start) => self.walk_with("lentwalk", self.lent, *start),
             Line::Pick(place) => self.pick_with("pick", BY_VALUE, *place),
             Line::LentPick(place) => self.pick_with("lentpick", self.lent, *place),
             Line::Picks(places) => {
@@ -131,24 +115,13 @@ impl State {
                 let (number, fields) = view(&self.board, *address);
                 Answer::View { number, fields }
             }
-            Line::Fields431(address) => Answer::Fields431(sister_fields_at(&self.board, *address)),
-            Line::View431(address) => {
-                let (number, fields) = sister_view(&self.board, *address);
-                Answer::View431 { number, fields }
-            }
             Line::Deck(deck) => Answer::Deck(bench(deck)),
             _ => unreachable!("the setting lines are played above"),
         }
     }
 
-    /// Walks by one of the two walks, over so many records.
-    fn walk_with(
-        &mut self,
-        word: &'static str,
-        records: usize,
-        walk: impl Fn(&Board, &mut [Record]) -> WalkReply,
-    ) -> Answer {
-        let reply = walk(&self.board, &mut self.table[..records]);
+    fn walk_with(&mut self, word: &'static str, records: usize, start: u64) -> Answer {
+        let reply = walk(&self.board, &mut self.table[..records], start);
         self.commands = reply.commands;
         Answer::Walk { word, reply }
     }

@@ -14,8 +14,6 @@ use crate::trial::last_head;
 use crate::trial::line::Line;
 use crate::trial::list_steps;
 use crate::trial::list_walks;
-use crate::trial::sister_steps;
-use crate::trial::sister_walks;
 use crate::trial::state::State;
 use crate::trial::unit_looks;
 use crate::trial::unit_steps;
@@ -97,10 +95,7 @@ impl Tally {
                 self.moved = unit_steps::Moved::default();
                 self.add("cases");
             }
-            Answer::Walk { word, reply } => {
-                self.see_walk(before, state, word, reply);
-                self.see_chain(state, line, reply);
-            }
+            Answer::Walk { word, reply } => self.see_walk(before, state, word, reply),
             Answer::Pick { word, number } => {
                 self.see_call(before, state, word, *number);
                 if let Line::Pick(place) | Line::LentPick(place) = line {
@@ -123,8 +118,6 @@ impl Tally {
             Answer::Place { number, place } => self.see_place(state, line, *number, place),
             Answer::Fields(_) => self.add("fields"),
             Answer::View { number, .. } => self.add(&format!("view {number}")),
-            Answer::Fields431(_) => self.add("fields431"),
-            Answer::View431 { number, .. } => self.add(&format!("view431 {number}")),
             Answer::Deck(reply) => self.see_deck(reply),
         }
     }
@@ -138,7 +131,6 @@ impl Tally {
             let in_use = &before.table[..before.commands as usize];
             self.add_all(fitted::call_rows(in_use, word));
             self.add_all(unit_looks::call_rows(&state.board, in_use));
-            self.add_all(sister_steps::call_rows(&state.board, in_use));
         }
     }
 
@@ -186,40 +178,26 @@ impl Tally {
         self.add(&format!("{word} {}", reply.number));
         let (number, commands) = (reply.number, reply.commands);
         self.add_all(fitted::walk_rows(&before.table, &state.table, number, commands));
-        self.see_one(state, word, reply.number);
-        if reply.number == 0 {
-            for unit in state.board.present() {
-                self.add_all(last_head::drive_rows(&unit.drive));
-            }
-            self.add_all(unit_walks::walk_rows(&state.board));
-        }
-    }
-
-    /// The chain that a walk met, with rows of its own for each front end.
-    fn see_chain(&mut self, state: &State, line: &Line, reply: &WalkReply) {
-        let records = &state.table[..reply.commands as usize];
-        if let Line::Walk431 { relocation, start } | Line::LentWalk431 { relocation, start } = line
-        {
-            let board = &state.board;
-            self.add_all(sister_walks::walk_rows(board, *relocation, *start, reply, records));
-            for record in records {
-                self.add_all(sister_walks::command_rows(board, record));
-            }
-            return;
-        }
         if reply.number == 4 {
             let (last, earlier) = reply.reached.split_last().expect("an IOPB was reached");
             self.add(if earlier.contains(last) { LOOP } else { OVERLAP });
         }
-        if reply.number == 0 {
-            self.add(&format!("chain of {}", reply.commands));
+        self.see_one(state, word, reply.number);
+        if reply.number != 0 {
+            return;
         }
+        self.add(&format!("chain of {}", reply.commands));
+        for unit in state.board.present() {
+            self.add_all(last_head::drive_rows(&unit.drive));
+        }
+        self.add_all(unit_walks::walk_rows(&state.board));
+        let records = &state.table[..reply.commands as usize];
         for (record, address) in records.iter().zip(&reply.reached) {
             self.see_command(&state.board, *address, record);
         }
     }
 
-    /// An accepted command of the 753's walk.
+    /// An accepted command of a walk.
     fn see_command(&mut self, board: &Board, address: u64, record: &Record) {
         self.add(&format!("code {:02X}", record.code));
         let fields = fields_at(board, address);
@@ -288,14 +266,12 @@ impl Tally {
             self.see_conflict(&earlier, &picked);
             self.add_all(list_steps::conflict_rows(&earlier, &picked));
             self.add_all(unit_steps::conflict_rows(&earlier, &picked));
-            self.add_all(sister_steps::conflict_rows(&earlier, &picked));
             return;
         }
         if !earlier.is_empty() {
             self.add(PASSED);
             self.add_all(list_steps::past_rows(&earlier, &picked));
             self.add_all(unit_steps::past_rows(&earlier, &picked));
-            self.add_all(sister_steps::past_rows(&earlier, &picked));
         }
         self.see_step(state, place as usize);
     }
@@ -304,7 +280,6 @@ impl Tally {
         self.add_all(list_steps::step_rows(&state.board, &state.table[place]));
         self.add_all(fitted::step_rows(&state.board, &state.table[place]));
         self.add_all(unit_steps::step_rows(&state.board, &state.table[place]));
-        self.add_all(sister_steps::step_rows(&state.board, &state.table[place]));
         let moved = self.moved.step_rows(&state.table[place]);
         self.add_all(moved);
         take_step(&mut state.board, &mut state.table[place]);
@@ -332,7 +307,6 @@ impl Tally {
         self.add_all(list_steps::refused_nine_rows(in_use));
         self.add_all(wide::refused_nine_rows(&state.board, in_use, &found));
         self.add_all(unit_looks::refused_nine_rows(&state.board, in_use, &found));
-        self.add_all(sister_steps::refused_nine_rows(&state.board, in_use, &found));
         for (cause, name) in CAUSES {
             if found.contains(&cause) {
                 self.add(&format!("refused 9: {name}"));
@@ -396,8 +370,6 @@ fn names_of_calls() -> Vec<String> {
     for (word, numbers) in [
         ("walk", vec![0, 1, 2, 3, 4, 5]),
         ("lentwalk", vec![0, 1, 2, 3, 4, 5]),
-        ("walk431", vec![0, 1, 2, 3, 4, 5]),
-        ("lentwalk431", vec![0, 1, 2, 3, 4, 5]),
         ("pick", vec![0, 1, 6, 7, 8, 9]),
         ("lentpick", vec![0, 1, 6, 7, 8, 9]),
         ("picks", vec![0, 1, 9]),
@@ -407,7 +379,6 @@ fn names_of_calls() -> Vec<String> {
         ("look", vec![0, 1, 10, 11]),
         ("place", vec![0, 1, 10]),
         ("view", vec![0, 2, 3]),
-        ("view431", vec![0, 2, 3]),
     ] {
         names.extend(numbers.iter().map(|number| format!("{word} {number}")));
     }
@@ -417,7 +388,7 @@ fn names_of_calls() -> Vec<String> {
 fn all_names() -> Vec<String> {
     let mut names = vec!["cases".to_string()];
     names.extend(names_of_calls());
-    names.extend(["fields", "fields431", "run finished", "run not finished"].map(String::from));
+    names.extend(["fields", "run finished", "run not finished"].map(String::from));
     names.extend(CODES.iter().map(|code| format!("code {code:02X}")));
     names.extend(KINDS.iter().map(|kind| format!("conflict {kind}")));
     names.extend(KINDS.iter().map(|kind| format!("conflict {kind} alone")));
@@ -434,8 +405,6 @@ fn all_names() -> Vec<String> {
     names.extend(unit_walks::names());
     names.extend(unit_steps::names());
     names.extend(unit_looks::names());
-    names.extend(sister_walks::names());
-    names.extend(sister_steps::names());
     // The bench's sizes are right and it starts at 0, so 1 and 2 cannot come.
     names.extend(
         ["bench deck", "bench chain 3", "bench chain 4", "bench chain 5"].map(String::from),

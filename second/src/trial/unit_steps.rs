@@ -68,8 +68,7 @@ pub fn names() -> Vec<String> {
 /// The rows of a step that is about to be taken.
 pub fn step_rows(board: &Board, record: &Record) -> Vec<String> {
     let mut rows = if record.is_transfer() { move_rows(board, record) } else { Vec::new() };
-    // The 431 posts no byte that goes by the unit's drive.
-    if record.remaining() == 1 && !record.of_the_431() {
+    if record.remaining() == 1 {
         rows.extend(close_rows(board, record));
     }
     rows

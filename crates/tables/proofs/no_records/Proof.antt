@@ -13,7 +13,7 @@ no-links-requires : tie.Need-no-links-requires
 no-links-requires c κs = search rules
 
 returns : tie.Need-returns
-returns c = ap (λ (xs : List Link). replicate {A = Record} most_commands (record { iopb = 0; address = 0; sector = 0; taken = 0; ranges = 0; front = 0; count = 0; unit = 0; byte0 = 0; code = 0; fitted = 0; list = xs })) c.no-links.ensures
+returns c = ap (λ (xs : List Link). replicate {A = Record} most_commands (record { iopb = 0; address = 0; sector = 0; taken = 0; ranges = 0; count = 0; unit = 0; byte0 = 0; code = 0; fitted = 0; list = xs })) c.no-links.ensures
 
 pub no-records-spec : {M : Type 1} → statement M
 no-records-spec = tie.close (tie.spec no-links-requires returns)

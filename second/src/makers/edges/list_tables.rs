@@ -37,7 +37,7 @@ fn record_with(command: u8, list: &[Range]) -> Record {
         sector: 8,
         count: 2,
         byte0: SGM | command,
-        ranges: list.len() as u8,
+        ranges: list.len() as u16,
         ..Record::default()
     };
     record.list[..list.len()].copy_from_slice(list);
@@ -61,13 +61,14 @@ fn one(script: &mut Script, record: Record) {
 }
 
 /// Full records, and records that claim more ranges than there is room for;
-/// some claims are small again in 5, 6 or 7 bits.
+/// some claims are small again in 8 or in 15 bits.
 fn numbers_of_ranges(script: &mut Script) {
     let full = record_with(READ, &evenly(32, 0x600, 36, 32));
     let two = record_with(WRITE, &list_of(&[(0x600, 600), (0xA00, 424)]));
-    for (record, numbers) in
-        [(full, vec![32, 33, 31, 64, 96, 160, 255]), (two, vec![2, 3, 32, 33, 1, 34, 130, 255])]
-    {
+    for (record, numbers) in [
+        (full, vec![32, 33, 31, 64, 256, 65_535, 0x8020]),
+        (two, vec![2, 3, 32, 33, 1, 258, 0x8002, 65_535]),
+    ] {
         for ranges in numbers {
             one(script, Record { ranges, ..record });
         }
@@ -143,7 +144,7 @@ fn not_looked_at(script: &mut Script) {
     one(script, Record { ranges: 3, ..past });
     for (byte0, code) in [(READ, 0x1C), (WRITE, 0x4B), (SGM | READ, 0x1F), (0, 0), (SGM, 0), (7, 0)]
     {
-        for ranges in [2, 33, 255] {
+        for ranges in [2, 33, 65_535] {
             one(script, Record { byte0, code, ranges, ..record_with(0, &bad) });
         }
     }
@@ -246,7 +247,7 @@ fn spoiled_after_the_walk(script: &mut Script) {
 /// A table full of other things before the walk: the walk sets all ranges of
 /// its own records, and leaves those past the last alone; all on a refusal.
 fn left_by_a_walk(script: &mut Script) {
-    let junk = Record { ranges: 255, count: 9, ..record_with(READ, &evenly(32, 1, 3, 5)) };
+    let junk = Record { ranges: 65_535, count: 9, ..record_with(READ, &evenly(32, 1, 3, 5)) };
     let right = list_of(&[(0x600, 100), (0xA00, 412)]);
     let odd = list_of(&[(0x601, 100), (0xA00, 412)]);
     let block = listed(READ, 1, 2);

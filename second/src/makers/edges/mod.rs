@@ -1,6 +1,6 @@
 //! Further cases made by hand, at every edge of document 01, of the last head's
-//! own maximum, of link lists, of 16 and 32 bits, of how much would have fitted,
-//! of several drives and of the 431, and past it; each file here has one subject.
+//! own maximum, of link lists, of 16 and 32 bits, of how much would have fitted
+//! and of several drives, and past it; each file here has one subject.
 
 pub mod closes;
 pub mod codes;
@@ -25,18 +25,6 @@ pub mod over_ends;
 pub mod places;
 pub mod runs;
 pub mod shortcuts;
-pub mod sister_addresses;
-pub mod sister_closes;
-pub mod sister_codes;
-pub mod sister_conflicts;
-pub mod sister_ends;
-pub mod sister_mixed;
-pub mod sister_orders;
-pub mod sister_runs;
-pub mod sister_sizes;
-pub mod sister_tables;
-pub mod sister_views;
-pub mod sister_walks;
 pub mod sizes;
 pub mod unit_conflicts;
 pub mod unit_runs;
@@ -53,7 +41,6 @@ pub mod wide_tables;
 use crate::board::SECTOR_BYTES;
 use crate::makers::block::Block;
 use crate::makers::script::Script;
-use crate::makers::sister_cases;
 use crate::trial::line::Line;
 
 /// The command Write Data.
@@ -97,7 +84,6 @@ pub fn all_edges(script: &mut Script) {
     unit_sizes::all(script);
     unit_tables::all(script);
     unit_runs::all(script);
-    sister_cases::all(script);
 }
 
 /// Memory of a length, with a pattern.

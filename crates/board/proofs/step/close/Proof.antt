@@ -1,65 +1,60 @@
--- `board::step::close` meets its contract: the front end that the mark means decides.
-use mathlib.Core.Path.{◌≡◌, sym, ◌∙◌}
+-- `board::step::close` meets its contract: four stores are `sets` of the four closing bytes.
+use mathlib.Core.Path.{◌∙◌, ap}
 use native.Mathlib.Omega.{arith}
-use Rattle.meaning.specs.declared.FrontEnd.TheVariants.{Xylogics753, Xylogics431}
-use Rattle.meaning.specs.Front.{front_in}
-use Rattle.meaning.specs.Drives.{drives_of}
-use Rattle.board.proofs.Closed.{closes_753, closes_431}
+use lib.ListN.{length-set}
+use lib.Seq.{sets}
+use Rattle.board.proofs.Copying.{four_sets}
 use borrow.Author.Rules.{rules}
 use Rattle.board.proofs.step.close.Statement.{statement}
 use Rattle.board.proofs.step.close.Tie as tie
 
-is-753 : (c : tie.After-enum-told) → front_in c.before.before.before.before.args.r ≡ Xylogics753
-is-753 c = sym c.before.before.of-mark.ensures ∙ c.enum_told.given.1
+posted-requires : tie.Need-posted-requires
+posted-requires c κs = search rules
 
-is-431 : (c : tie.After-enum-told2) → front_in c.before.before.before.before.args.r ≡ Xylogics431
-is-431 c = sym c.before.before.of-mark.ensures ∙ c.enum-told2.given.1
+cast-at : tie.Need-overflow-cast-at
+cast-at c = search rules
 
-of-mark-requires : tie.Need-of-mark-requires
-of-mark-requires c κs = search rules
+slice-write-memory : tie.Need-slice-write-memory
+slice-write-memory c = search rules
 
-enum_told : tie.Need-enum-told
-enum_told c = search rules
+add-memory : tie.Need-overflow-add-memory
+add-memory c = search rules
 
-close-753-requires : tie.Need-close-753-requires
-close-753-requires c κs = let k = c.before in let within = rw (is-753 k) at k.before.before.before.before.requires in omega (arith, within)
+slice-write-memory-2 : tie.Need-slice-write-memory-2
+slice-write-memory-2 c = simp length-set (omega arith)
 
-enum-told-2 : tie.Need-enum-told-2
-enum-told-2 c = search rules
+add-memory-2 : tie.Need-overflow-add-memory-2
+add-memory-2 c = search rules
 
-close-431-requires : tie.Need-close-431-requires
-close-431-requires c κs = let k = c.before in let within = rw (is-431 k) at k.before.before.before.before.requires in omega (arith, within)
+slice-write-memory-3 : tie.Need-slice-write-memory-3
+slice-write-memory-3 c = simp length-set (omega arith)
+
+add-memory-3 : tie.Need-overflow-add-memory-3
+add-memory-3 c = search rules
+
+slice-write-memory-4 : tie.Need-slice-write-memory-4
+slice-write-memory-4 c = simp length-set (omega arith)
 
 same_length : tie.Need-same-length
 same_length c = search rules
 
 returns : tie.Need-returns
-returns c =
-    let v = c.before.before in
-    let k = v.before.before in
-    let a = k.before.before.before.before.args in
-    v.close_753.ensures ∙ closes_753 (drives_of a.l) a.r a.memory.now (is-753 k)
-
-same-length-2 : tie.Need-same-length-2
-same-length-2 c = search rules
-
-returns-2 : tie.Need-returns-2
-returns-2 c =
-    let v = c.before.before in
-    let k = v.before.before in
-    let a = k.before.before.before.before.args in
-    v.close_431.ensures ∙ closes_431 (drives_of a.l) a.r a.memory.now (is-431 k)
+returns c = let a = c.before.before.before.args in
+    let s = c.before.posted.result in
+    four_sets a.memory.now a.r.iopb s.byte0 s.code s.drive s.internal ∙ ap (sets a.memory.now a.r.iopb) c.before.posted.ensures
 
 pub close_spec : {M : Type 1} → statement M
 close_spec =
     tie.close
     (tie.spec
-    of-mark-requires
-    enum_told
-    close-753-requires
-    enum-told-2
-    close-431-requires
+    posted-requires
+    cast-at
+    slice-write-memory
+    add-memory
+    slice-write-memory-2
+    add-memory-2
+    slice-write-memory-3
+    add-memory-3
+    slice-write-memory-4
     same_length
-    returns
-    same-length-2
-    returns-2)
+    returns)

@@ -7,17 +7,16 @@ use lib.ListN.{length, set}
 use Rattle.meaning.specs.declared.Record.{Record}
 use borrow.Author.Rules.{rules}
 use Rattle.meaning.specs.Drives.{drives_of}
-use Rattle.meaning.specs.Front.{front_of}
 use Rattle.chain.specs.Records.{filled_at}
 use Rattle.chain.proofs.Over.{filled_next}
 use Rattle.chain.proofs.walk.filled.Statement.{statement}
 use Rattle.chain.proofs.walk.filled.Tie as tie
 
 abbrev invariant-loop : tie.invariant-loop
-invariant-loop memory l mark n addresses t₀ k₀ t k = (k ≤ n) × (length t ≡ 32) × (t ≡ filled_at (front_of mark) memory (drives_of l) k addresses t₀)
+invariant-loop memory l n addresses t₀ k₀ t k = (k ≤ n) × (length t ≡ 32) × (t ≡ filled_at memory (drives_of l) k addresses t₀)
 
 abbrev decreases-loop : tie.decreases-loop
-decreases-loop memory l mark n addresses t₀ k₀ t k = n - k
+decreases-loop memory l n addresses t₀ k₀ t k = n - k
 
 loop-holds : tie.Need-loop-init invariant-loop decreases-loop
 loop-holds c = (search rules, search rules, refl)
@@ -47,15 +46,15 @@ loop-again : tie.Need-loop-preserved invariant-loop decreases-loop
 loop-again c =
     let a = c.before.before.before.before.args in
     let l = c.before.before.loop in
-    let long : length a.t4 ≡ 32 = search rules in
+    let long : length a.t3 ≡ 32 = search rules in
     let long-table : length a.table ≡ 32 = search rules in
-    (omega arith, search rules, ap (λ (x : List Record). set x l.k c.record-at.result) l.invariant.2 ∙ ap (set (filled_at (front_of a.mark) a.memory.now (drives_of a.l) l.k a.t4 a.table) l.k) c.record-at.ensures ∙ filled_next (front_of a.mark) a.memory.now (drives_of a.l) a.t4 a.table l.k (omega arith) (omega arith))
+    (omega arith, search rules, ap (λ (x : List Record). set x l.k c.record-at.result) l.invariant.2 ∙ ap (set (filled_at a.memory.now (drives_of a.l) l.k a.t3 a.table) l.k) c.record-at.ensures ∙ filled_next a.memory.now (drives_of a.l) a.t3 a.table l.k (omega arith) (omega arith))
 
 returns : tie.Need-returns invariant-loop decreases-loop
 returns c =
     let a = c.before.before.before.args in
     let all : c.before.loop.k ≡ a.n = omega arith in
-    c.before.loop.invariant.2 ∙ ap (λ (k : ℕ). filled_at (front_of a.mark) a.memory.now (drives_of a.l) k a.t4 a.table) all
+    c.before.loop.invariant.2 ∙ ap (λ (k : ℕ). filled_at a.memory.now (drives_of a.l) k a.t3 a.table) all
 
 pub filled-spec : {M : Type 1} → statement M
 filled-spec =

@@ -7,7 +7,7 @@ use Rattle.chain.proofs.walk.meets_earlier.Statement.{statement}
 use Rattle.chain.proofs.walk.meets_earlier.Tie as tie
 
 returns : tie.Need-returns
-returns c = sym (none_shares c.before.before.args.n c.before.before.args.addresses.now c.before.before.requires (omega arith))
+returns c = sym (none_shares c.before.before.args.addresses.now c.before.before.requires (omega arith))
 
 shares-any-requires : tie.Need-shares-any-requires
 shares-any-requires c κs = search rules

@@ -1,49 +1,46 @@
--- `chain::walk::plain_record_at` meets its contract: it goes by the front end that the mark means.
-use mathlib.Core.Path.{sym, ap, ◌∙◌}
-use Rattle.meaning.specs.declared.FrontEnd.{FrontEnd}
-use Rattle.meaning.specs.Drives.{drives_of}
-use Rattle.chain.specs.Records.{plain_record_at}
+-- `chain::walk::plain_record_at` meets its contract: each field is what its call ensures, of what is copied.
 use borrow.Author.Rules.{rules}
+use Rattle.meaning.specs.Drives.{drives_of}
+use Rattle.chain.proofs.Coding.{plain_made}
 use Rattle.chain.proofs.walk.plain_record_at.Statement.{statement}
 use Rattle.chain.proofs.walk.plain_record_at.Tie as tie
 
-of-mark-requires : tie.Need-of-mark-requires
-of-mark-requires c κs = search rules
+no-links-requires : tie.Need-no-links-requires
+no-links-requires c κs = search rules
 
-enum_told : tie.Need-enum-told
-enum_told c = search rules
+copied-requires : tie.Need-copied-requires
+copied-requires c κs = search rules
 
-plain-753-requires : tie.Need-plain-753-requires
-plain-753-requires c κs = search rules
+drive-of-requires : tie.Need-drive-of-requires
+drive-of-requires c κs = search rules
 
-enum-told-2 : tie.Need-enum-told-2
-enum-told-2 c = search rules
+first-sector-requires : tie.Need-first-sector-requires
+first-sector-requires c κs = search rules
 
-record-431-requires : tie.Need-record-431-requires
-record-431-requires c κs = search rules
+early-verdict-requires : tie.Need-early-verdict-requires
+early-verdict-requires c κs = search rules
+
+final-verdict-requires : tie.Need-final-verdict-requires
+final-verdict-requires c κs = search rules
 
 returns : tie.Need-returns
 returns c =
-    let k = c.before in
-    let o = k.before.before in
-    let a = o.before.before.args in
-    c.plain-753.ensures ∙ ap (λ (f : FrontEnd). plain_record_at f a.memory.now (drives_of a.l) a.at) (sym k.enum_told.given.1 ∙ o.of-mark.ensures)
-
-returns-2 : tie.Need-returns-2
-returns-2 c =
-    let k = c.before in
-    let o = k.before.before in
-    let a = o.before.before.args in
-    c.record-431.ensures ∙ ap (λ (f : FrontEnd). plain_record_at f a.memory.now (drives_of a.l) a.at) (sym k.enum-told2.given.1 ∙ o.of-mark.ensures)
+    let e = c.before in
+    let f = e.before in
+    let o = f.before in
+    let k = o.before in
+    let a = k.before.before.before.args in
+    plain_made a.memory.now a.at (drives_of a.l) k.copied.result o.drive-of.result e.early-verdict.result f.first-sector.result k.before.no-links.result c.final-verdict.result
+    k.copied.ensures o.drive-of.ensures e.early-verdict.ensures k.before.no-links.ensures f.first-sector.ensures c.final-verdict.ensures
 
 pub plain-record-at-spec : {M : Type 1} → statement M
 plain-record-at-spec =
     tie.close
     (tie.spec
-    of-mark-requires
-    enum_told
-    plain-753-requires
-    enum-told-2
-    record-431-requires
-    returns
-    returns-2)
+    no-links-requires
+    copied-requires
+    drive-of-requires
+    first-sector-requires
+    early-verdict-requires
+    final-verdict-requires
+    returns)

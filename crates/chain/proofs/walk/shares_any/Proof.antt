@@ -14,17 +14,17 @@ use Rattle.chain.proofs.walk.shares_any.Statement.{statement}
 use Rattle.chain.proofs.walk.shares_any.Tie as tie
 
 abbrev invariant-loop : tie.invariant-loop
-invariant-loop addresses n b k₀ k =
+invariant-loop addresses b k₀ k =
     (k ≤ length addresses)
-    × (some_of (λ (a : ℕ). shares n a b) addresses ≡ some_of (λ (a : ℕ). shares n a b) (drop k (take (length addresses) addresses)))
+    × (some_of (λ (a : ℕ). shares a b) addresses ≡ some_of (λ (a : ℕ). shares a b) (drop k (take (length addresses) addresses)))
 
 abbrev decreases-loop : tie.decreases-loop
-decreases-loop addresses n b k₀ k = length addresses - k
+decreases-loop addresses b k₀ k = length addresses - k
 
 loop-holds : tie.Need-loop-init invariant-loop decreases-loop
 loop-holds c = let a = c.before.args in
     let l = a.addresses.now in
-    (search rules, ap (some_of (λ (x : ℕ). shares a.n x a.b)) (sym (take-length l)))
+    (search rules, ap (some_of (λ (x : ℕ). shares x a.b)) (sym (take-length l)))
 
 mul-share : tie.Need-overflow-mul-share invariant-loop decreases-loop
 mul-share c = search rules
@@ -39,7 +39,7 @@ returns : tie.Need-returns invariant-loop decreases-loop
 returns c = let a = c.before.before.before.before.before.before.args in
     let l = a.addresses.now in
     let k = c.before.before.before.before.loop in
-    sym (k.invariant.1 ∙ some_hit 0 l (length l) (le_refl (length l)) (λ (x : ℕ). shares a.n x a.b) k.k c.before.before.before.loop-test.true (sym c.before.share.ensures ∙ c.if1.true))
+    sym (k.invariant.1 ∙ some_hit 0 l (length l) (le_refl (length l)) (λ (x : ℕ). shares x a.b) k.k c.before.before.before.loop-test.true (sym c.before.share.ensures ∙ c.if1.true))
 
 add-k : tie.Need-overflow-add-k invariant-loop decreases-loop
 add-k c = omega arith
@@ -51,12 +51,12 @@ loop-again : tie.Need-loop-preserved invariant-loop decreases-loop
 loop-again c = let a = c.before.before.before.before.before.before.args in
     let l = a.addresses.now in
     let k = c.before.before.before.before.loop in
-    (omega arith, k.invariant.1 ∙ some_miss 0 l (length l) (le_refl (length l)) (λ (x : ℕ). shares a.n x a.b) k.k c.before.before.before.loop-test.true (sym c.before.share.ensures ∙ c.if1.false))
+    (omega arith, k.invariant.1 ∙ some_miss 0 l (length l) (le_refl (length l)) (λ (x : ℕ). shares x a.b) k.k c.before.before.before.loop-test.true (sym c.before.share.ensures ∙ c.if1.false))
 
 returns-2 : tie.Need-returns-2 invariant-loop decreases-loop
 returns-2 c = let a = c.before.before.before.args in
     let l = a.addresses.now in
-    sym (c.before.loop.invariant.1 ∙ some_none 0 l (length l) (le_refl (length l)) (λ (x : ℕ). shares a.n x a.b) c.before.loop.k c.loop-test.false)
+    sym (c.before.loop.invariant.1 ∙ some_none 0 l (length l) (le_refl (length l)) (λ (x : ℕ). shares x a.b) c.before.loop.k c.loop-test.false)
 
 pub shares-any-spec : {M : Type 1} → statement M
 shares-any-spec =

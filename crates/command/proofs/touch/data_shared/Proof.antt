@@ -21,9 +21,6 @@ returns : tie.Need-returns
 returns c = let a = c.before.before.args in
     ap (λ (xs : List Range). meet xs (moved_data a.s)) (sym (moved_none a.r (sym c.before.transfers.ensures ∙ not-true _ c.if1.true)))
 
-cast-meets-data : tie.Need-overflow-cast-meets-data
-cast-meets-data c = search rules
-
 plain-bytes-requires : tie.Need-plain-bytes-requires
 plain-bytes-requires c κs = search rules
 
@@ -31,13 +28,9 @@ meets-data-requires : tie.Need-meets-data-requires
 meets-data-requires c κs = search rules
 
 returns-2 : tie.Need-returns-2
-returns-2 c =
-    let p = c.before in
-    let o = p.before.before in
-    let e = o.before.before in
-    let a = e.before.before.args in
-    c.meets-data.ensures ∙ ap (λ (n : ℕ). some_of (overlap (bytes a.r.address n)) (moved_data a.s)) p.plain_bytes.ensures ∙ sym (or_no _)
-    ∙ ap (λ (xs : List Range). meet xs (moved_data a.s)) (sym (moved_plain a.r (sym e.before.transfers.ensures ∙ not-false _ e.if1.false) o.if2.true))
+returns-2 c = let a = c.before.before.before.before.before.before.args in
+    c.meets-data.ensures ∙ ap (λ (n : ℕ). some_of (overlap (bytes a.r.address n)) (moved_data a.s)) c.before.plain_bytes.ensures ∙ sym (or_no _)
+    ∙ ap (λ (xs : List Range). meet xs (moved_data a.s)) (sym (moved_plain a.r (sym c.before.before.before.before.before.transfers.ensures ∙ not-false _ c.before.before.before.before.if1.false) c.before.before.if2.true))
 
 list-meets-data-requires : tie.Need-list-meets-data-requires
 list-meets-data-requires c κs = search rules
@@ -53,7 +46,6 @@ data-shared-spec =
     (tie.spec
     transfers-requires
     returns
-    cast-meets-data
     plain-bytes-requires
     meets-data-requires
     returns-2

@@ -6,12 +6,6 @@ use borrow.Author.Rules.{rules}
 use Rattle.command.proofs.touch.footprints_meet.Statement.{statement}
 use Rattle.command.proofs.touch.footprints_meet.Tie as tie
 
-cast-crosses : tie.Need-overflow-cast-crosses
-cast-crosses c = search rules
-
-cast-crosses-2 : tie.Need-overflow-cast-crosses-2
-cast-crosses-2 c = search rules
-
 crosses-requires : tie.Need-crosses-requires
 crosses-requires c κs = search rules
 
@@ -51,8 +45,6 @@ pub footprints-meet-spec : {M : Type 1} → statement M
 footprints-meet-spec =
     tie.close
     (tie.spec
-    cast-crosses
-    cast-crosses-2
     crosses-requires
     returns
     status-meets-requires

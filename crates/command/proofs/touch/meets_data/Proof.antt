@@ -1,11 +1,10 @@
 -- `command::touch::meets_data` meets its contract: whether the command moves data, and whether it has a list, decides what is tested.
 use mathlib.Core.Path.{sym, ap, ◌∙◌}
-use Prim.Native.Nat.{ℕ}
 use Rattle.meaning.specs.Ranges.{bytes}
 use Rattle.meaning.proofs.Rows.{not-true, not-false}
 use Rattle.command.proofs.Moved.{moved_none, moved_plain, moved_listed}
 use Rattle.meaning.specs.Each.{some_of}
-use Rattle.meaning.specs.Ranges.{overlap}
+use Rattle.meaning.specs.Ranges.{crosses, overlap}
 use Rattle.meaning.specs.Links.{range_of}
 use Rattle.meaning.specs.Command.{links_of}
 use Rattle.meaning.proofs.Tests.{or_no, some_map}
@@ -23,20 +22,13 @@ returns c = let a = c.before.before.args in
 plain-bytes-requires : tie.Need-plain-bytes-requires
 plain-bytes-requires c κs = search rules
 
-cast-bytes-cross : tie.Need-overflow-cast-bytes-cross
-cast-bytes-cross c = search rules
-
-bytes-cross-requires : tie.Need-bytes-cross-requires
-bytes-cross-requires c κs = search rules
+crosses-requires : tie.Need-crosses-requires
+crosses-requires c κs = search rules
 
 returns-2 : tie.Need-returns-2
-returns-2 c =
-    let p = c.before in
-    let o = p.before.before in
-    let e = o.before.before in
-    let a = e.before.before.args in
-    c.bytes-cross.ensures ∙ ap (λ (n : ℕ). overlap (bytes a.a a.n) (bytes a.r.address n)) p.plain_bytes.ensures ∙ sym (or_no _)
-    ∙ ap (some_of (overlap (bytes a.a a.n))) (sym (moved_plain a.r (sym e.before.transfers.ensures ∙ not-false _ e.if1.false) o.if2.true))
+returns-2 c = let a = c.before.before.before.before.before.before.args in
+    c.crosses.ensures ∙ ap (crosses a.a a.n a.r.address) c.before.plain_bytes.ensures ∙ sym (or_no _)
+    ∙ ap (some_of (overlap (bytes a.a a.n))) (sym (moved_plain a.r (sym c.before.before.before.before.before.transfers.ensures ∙ not-false _ c.before.before.before.before.if1.false) c.before.before.if2.true))
 
 list-meets-requires : tie.Need-list-meets-requires
 list-meets-requires c κs = search rules
@@ -53,9 +45,8 @@ meets-data-spec =
     (tie.spec
     transfers-requires
     returns
-    cast-bytes-cross
     plain-bytes-requires
-    bytes-cross-requires
+    crosses-requires
     returns-2
     list-meets-requires
     returns-3)

@@ -12,43 +12,39 @@ use Rattle.command.proofs.touch.status_meets.Tie as tie
 begins-requires : tie.Need-begins-requires
 begins-requires c κs = search rules
 
-cast-to : tie.Need-overflow-cast-to
-cast-to c = search rules
-
-add-to : tie.Need-overflow-add-to
-add-to c = search rules
+add-if1 : tie.Need-add-if1
+add-if1 c = search rules
 
 returns : tie.Need-returns
-returns c =
-    let b = c.before.before.before in
-    let a = b.before.args in
-    let from = b.begins.result in
-    let many = a.f.status_many in
+returns c = let a = c.before.before.before.args in
+    let from = c.before.before.begins.ensures in
+    let b = c.before.before.begins.result in
     let low = a.g.hull.low in
     let high = a.g.hull.high in
-    sym (ap (λ (z : ℕ). ltb (max z low) (min (z + many) high)) (sym b.begins.ensures) ∙ le-ltb (max from low) (min (from + many) high) (omega (arith, c.if1.true)))
+    sym (ap (λ (z : ℕ). ltb (max z low) (min (z + 4) high)) (sym from) ∙ le-ltb (max b low) (min (b + 4) high) (omega (arith, c.if1.taken)))
 
 larger-requires : tie.Need-larger-requires
 larger-requires c κs = search rules
+
+add-smaller : tie.Need-add-smaller
+add-smaller c = search rules
 
 smaller-requires : tie.Need-smaller-requires
 smaller-requires c κs = search rules
 
 returns-2 : tie.Need-returns-2
-returns-2 c =
-    let b = c.before.before.before.before.before in
-    let a = b.before.args in
-    let many = a.f.status_many in
-    ap₂ ltb (c.before.larger.ensures ∙ ap (λ (z : ℕ). max z a.g.hull.low) b.begins.ensures) (c.smaller.ensures ∙ ap (λ (z : ℕ). min (z + many) a.g.hull.high) b.begins.ensures)
+returns-2 c = let a = c.before.before.before.before.before.args in
+    let from = c.before.before.before.before.begins.ensures in
+    ap₂ ltb (c.before.larger.ensures ∙ ap (λ (b : ℕ). max b a.g.hull.low) from) (c.smaller.ensures ∙ ap (λ (b : ℕ). min (b + 4) a.g.hull.high) from)
 
 pub status-meets-spec : {M : Type 1} → statement M
 status-meets-spec =
     tie.close
     (tie.spec
     begins-requires
-    cast-to
-    add-to
+    add-if1
     returns
     larger-requires
+    add-smaller
     smaller-requires
     returns-2)

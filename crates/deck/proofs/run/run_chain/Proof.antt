@@ -8,7 +8,7 @@ use Rattle.meaning.specs.declared.Record.{Record}
 use Rattle.meaning.specs.Store.{lent, images}
 use Rattle.meaning.specs.Drives.{drives_of}
 use Rattle.meaning.specs.State.{state_of}
-use Rattle.meaning.specs.Walk.{at753, WalkGives}
+use Rattle.meaning.specs.Walk.{WalkGives}
 use Rattle.meaning.specs.Bench.{no_records}
 use Rattle.deck.proofs.Running.{refused_outcome, few_commands, ran_outcome}
 use Rattle.deck.proofs.Outcomes.{reports_refused, reports_ran}
@@ -23,10 +23,10 @@ abbrev tested : tie.After-ran → tie.Else1
 tested c = c.before.before.before.before.before.before.before.before.before.before.before.before.before.before.before.before
 
 -- the walk over a table that holds no command
-gives : (c : tie.After-walk) → let a = (entry c).args in WalkGives (drives_of a.l) (at753 0) (state_of a.memory.now (images a.image.now [] [] []) no_records) c.walk.result.walked c.walk.result.table
+gives : (c : tie.After-walk) → let a = (entry c).args in WalkGives (drives_of a.l) 0 (state_of a.memory.now (images a.image.now [] [] []) no_records) c.walk.result.walked c.walk.result.table
 gives c =
     let a = (entry c).args in
-    subst (λ (t : List Record). WalkGives (drives_of a.l) (at753 0) (state_of a.memory.now (images a.image.now [] [] []) t) c.walk.result.walked c.walk.result.table)
+    subst (λ (t : List Record). WalkGives (drives_of a.l) 0 (state_of a.memory.now (images a.image.now [] [] []) t) c.walk.result.walked c.walk.result.table)
     c.before.no-records.ensures c.walk.ensures
 
 slice-aggregate-walk : tie.Need-slice-aggregate-walk

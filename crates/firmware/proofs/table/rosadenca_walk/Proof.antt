@@ -3,11 +3,10 @@
 -- list is what `fill` says.
 use mathlib.Core.Path.{◌≡◌, refl, sym, ap, subst}
 use Prim.Native.Nat.{ℕ, ◌<◌, ◌^◌}
-use native.Mathlib.Omega.{arith}
 use mathlib.Core.List.{List, [], ◌∷◌, map-id}
 use lib.ListN.{length}
 use seplogic.Ra.Ura.{Ura}
-use mir.Syntax.{named, w8, w32, w64}
+use mir.Syntax.{named, w32, w64}
 use mir.Val.{Val, vint}
 use base.Logic.{SProp, ent, sep, emp, id⊢, via, fst∗}
 use base.Fml.{Lft, Share, Fml}
@@ -18,7 +17,7 @@ use types.Logic.{Logic, sem}
 use contract.Monad.{Fun}
 use contract.Running.{tables, tables_of}
 use types.Kit.{Item, ‵, raw, ◌⊛◌, ⋆, ◌$◌, ◌∵◌, !, qed, by, move, drop, use1, use3, split, join, fsplit, fjoin, feq_l, suffices, frame, done}
-use types.Run.{look, init, stop, hop, fld, from, load, lit, addr, of_opd, and_then, no_more, assigns, land, returns, params1, pass1, pass0}
+use types.Run.{look, init, stop, hop, fld, from, load, addr, of_opd, and_then, no_more, assigns, land, returns, params1, pass1, pass0}
 use types.Part.{agg, whole, sub, look_in}
 use sound.WpLaws.{fm_of}
 use denote.RattleType.{RattleType, owns}
@@ -42,8 +41,7 @@ use Rattle.meaning.specs.Drives.{drives_of}
 use Rattle.meaning.specs.declared.Record.{Record}
 use Rattle.meaning.specs.Store.{images}
 use Rattle.meaning.specs.State.{most_commands, state_of}
-use Rattle.meaning.specs.declared.FrontEnd.TheVariants.{Xylogics753}
-use Rattle.meaning.specs.Walk.{at753, WalkGives}
+use Rattle.meaning.specs.Walk.{WalkGives}
 use Rattle.meaning.specs.contracts.LentDrives as Dr
 use Rattle.meaning.proofs.LentDrives.TheLaws as Dr'
 use Rattle.meaning.specs.contracts.Walked as Wd
@@ -179,7 +177,7 @@ module _ {M : Type 1} {𝓤 : Ura M} (𝓛 : Logic 𝓤) (mem : Memory → SProp
       nothing ! $ move ! (3 ∷ 1 ∷ []) $ join ! $ join ! $ frame ! $ done !
 
   -- what was found, with its machine value, and what of it goes to `fill`
-  module _ (w : Found) (e : w ≡ found_of (chain_for (drives_of d) (at753 start) n m.now lent-images)) (is-w : Is Fd.the_row w (LL.vals Fd.the_type Fd'.the_laws w)) where
+  module _ (w : Found) (e : w ≡ found_of (chain_for (drives_of d) start n m.now lent-images)) (is-w : Is Fd.the_row w (LL.vals Fd.the_type Fd'.the_laws w)) where
     abbrev av : Val
     av = LL.val Wd.the_type Wd'.the_laws w.walked
 
@@ -197,25 +195,22 @@ module _ {M : Type 1} {𝓤 : Ura M} (𝓛 : Logic 𝓤) (mem : Memory → SProp
     commands-fit = (LL.owed Wd.the_type Wd'.the_laws w.walked _ is-walked).1.0.1
 
     abbrev after : List Record
-    after = filled_at Xylogics753 m.now (drives_of d) w.walked.commands w.addresses t.now
-
-    mark-fits : 0 < 2 ^ 8
-    mark-fits = omega arith
+    after = filled_at m.now (drives_of d) w.walked.commands w.addresses t.now
 
     abbrev to_fill : (Fill 𝓛 mem run).Ghost
-    to_fill = (((κ₀, (κ₅, tt)), (q₀, (q₅, tt)), tt, (m, (d, (0, (w.addresses, (w.walked.commands, (t, tt)))))), (mv ∷ [], (dv ∷ [], (vint w8 0 ∷ [], (rv ∷ [], (vint w64 w.walked.commands ∷ [], (tv ∷ [], tt))))))), tt)
+    to_fill = (((κ₀, (κ₅, tt)), (q₀, (q₅, tt)), tt, (m, (d, (w.addresses, (w.walked.commands, (t, tt))))), (mv ∷ [], (dv ∷ [], (rv ∷ [], (vint w64 w.walked.commands ∷ [], (tv ∷ [], tt)))))), tt)
 
     asks-fill : ent 𝓤 (⋆ 𝓛 (filling ∷ ‵ OwnM ∷ ‵ OwnT ∷ [])) ((Fill 𝓛 mem run).pre to_fill)
     asks-fill =
-        qed 𝓛 (filling ∷ ‵ OwnM ∷ ‵ OwnT ∷ []) ∵ says ! (found_whole (drives_of d) (at753 start) m.now lent-images t.now n refl w e).0 $ frame ! $
-        nothing ! $ move ! (2 ∷ 0 ∷ []) $ fjoin ! $ owned ! usize (Is usize) (uint_Makes 𝓛 w64) w.walked.commands _ (refl, commands-fit) $ fjoin ! $ owned ! Numbers (Is Numbers) (array.makes a_number most_commands 𝓛) w.addresses _ are-addresses $ fjoin ! $ owned ! u8 (Is u8) (uint_Makes 𝓛 w8) 0 _ (refl, mark-fits) $ fjoin ! $
+        qed 𝓛 (filling ∷ ‵ OwnM ∷ ‵ OwnT ∷ []) ∵ says ! (found_whole (drives_of d) start m.now lent-images t.now n refl w e).0 $ frame ! $
+        nothing ! $ move ! (2 ∷ 0 ∷ []) $ fjoin ! $ owned ! usize (Is usize) (uint_Makes 𝓛 w64) w.walked.commands _ (refl, commands-fit) $ fjoin ! $ owned ! Numbers (Is Numbers) (array.makes a_number most_commands 𝓛) w.addresses _ are-addresses $ fjoin ! $
         owned ! Dr.the_row (Is Dr.the_row) (LL.makes Dr.the_type Dr'.the_plain 𝓛) d _ is_d $ fjoin ! $ move ! (1 ∷ 0 ∷ []) $ fjoin ! $ done !
 
     exits : (zs : List Record) → zs ≡ after → length zs ≡ n → ent 𝓤 (⋆ 𝓛 (behind ∷ filling ∷ ‵ (finally R t.name zs) ∷ [])) (Post av)
     exits zs ez long =
         qed 𝓛 (behind ∷ filling ∷ ‵ (finally R t.name zs) ∷ []) ∵
         suffices ! _ (ends_at 𝓛 f.ended stayed (f.clauses 𝓛 mem run) (((κ₀, (κ₁, (κ₂, (κ₃, (κ₄, (κ₅, tt)))))), (q₀, (q₁, (q₂, (q₃, (q₄, (q₅, tt)))))), tt, args, vals), tt) av w.walked (tt, (tt, (tt, (tt, (tt, (tt, (tt, (zs, tt)))))))) (tt, (tt, (tt, (tt, (tt, (tt, (tt, (long, tt))))))))) $
-        says ! (subst (WalkGives (drives_of d) (at753 start) (state_of m.now lent-images t.now) w.walked) (sym ez) (found_whole (drives_of d) (at753 start) m.now lent-images t.now n refl w e).1) $
+        says ! (subst (WalkGives (drives_of d) start (state_of m.now lent-images t.now) w.walked) (sym ez) (found_whole (drives_of d) start m.now lent-images t.now n refl w e).1) $
         -- the tokens together
         move ! (1 ∷ []) $ split ! $ move ! (2 ∷ []) $ split ! $ move ! (1 ∷ []) $ split ! $ move ! (1 ∷ []) $ split ! $ move ! (1 ∷ []) $ split ! $ move ! (1 ∷ []) $ drop ! $
         -- [the tokens of images 3 to 0 and of memory, each by itself; the table's token]
@@ -241,7 +236,7 @@ module _ {M : Type 1} {𝓤 : Ura M} (𝓛 : Logic 𝓤) (mem : Memory → SProp
         move ! (2 ∷ 0 ∷ []) $ join ! $ move ! (2 ∷ 0 ∷ []) $ join ! $ move ! (2 ∷ 0 ∷ []) $ join ! $ move ! (2 ∷ 0 ∷ []) $ join ! $
         -- [the tokens to read; the table's token; the table; the images, from the last; the memory; the locals]
         move ! (4 ∷ 3 ∷ []) $ join ! $ move ! (4 ∷ 0 ∷ []) $ join ! $ move ! (4 ∷ 0 ∷ []) $ join ! $ move ! (1 ∷ 4 ∷ 0 ∷ []) $ use3 𝓛 (raw ((Finds 𝓛 mem run).pre to-finds) ⊛ ‵ OwnM) asks-finds $ split ! $
-        calls_meant ! (fm_of 𝓤 H 𝓛.laws 𝓣) finding.ended (finding.clauses 𝓛 mem run) known-finds to-finds (λ w ws. w ≡ found_of (chain_for (drives_of d) (at753 start) n m.now lent-images)) (λ w ws. id⊢ 𝓤 _)
+        calls_meant ! (fm_of 𝓤 H 𝓛.laws 𝓣) finding.ended (finding.clauses 𝓛 mem run) known-finds to-finds (λ w ws. w ≡ found_of (chain_for (drives_of d) start n m.now lent-images)) (λ w ws. id⊢ 𝓤 _)
         (and_then ! (load ! (from ! (stop !)) (look ! (pos 4 1) refl)) (and_then ! (load ! (from ! (stop !)) (look ! (pos 4 2) refl)) (and_then ! (load ! (from ! (stop !)) (look ! (pos 4 3) refl)) (and_then ! (load ! (from ! (stop !)) (look ! (pos 4 4) refl)) (and_then ! (load ! (from ! (stop !)) (look ! (pos 4 5) refl)) (and_then ! (load ! (from ! (stop !)) (look ! (pos 4 6) refl)) (and_then ! (load ! (from ! (stop !)) (look ! (pos 4 7) refl)) (and_then ! (load ! (from ! (stop !)) (look ! (pos 4 11) refl)) (no_more !))))))))) (λ v w ws e is.
         let v-is = LL.tells Fd.the_type Fd'.the_laws w (v ∷ []) is in
         let is-w = subst (Is Fd.the_row w) v-is is in
@@ -255,14 +250,14 @@ module _ {M : Type 1} {𝓤 : Ura M} (𝓛 : Logic 𝓤) (mem : Memory → SProp
         split ! $ move ! (0 ∷ 3 ∷ []) $ join ! $
         -- [the tokens to fill; the images' tokens; the memory; the table; the locals]
         move ! (0 ∷ 2 ∷ 3 ∷ []) $ use3 𝓛 (raw ((Fill 𝓛 mem run).pre (to_fill w e is-w))) (asks-fill w e is-w) $
-        calls_meant ! (fm_of 𝓤 H 𝓛.laws 𝓣) fill.ended (fill.clauses 𝓛 mem run) known-fill (to_fill w e is-w) (λ r zs. zs.1.1.1.1.1.0 ≡ after w e is-w) (λ r zs. id⊢ 𝓤 _)
-        (and_then ! (load ! (from ! (stop !)) (look ! (pos 2 1) refl)) (and_then ! (load ! (from ! (stop !)) (look ! (pos 2 6) refl)) (and_then ! (lit ! tt) (and_then ! (load ! (from ! (fld ! refl (stop !))) (look_in ! (pos 2 9) (sub ! 1 refl (whole !)))) (and_then ! (load ! (from ! (fld ! refl (stop !))) (look_in ! (pos 2 10) (sub ! 1 refl (whole !)))) (and_then ! (load ! (from ! (stop !)) (look ! (pos 2 14) refl)) (no_more !))))))) (λ u r zs ez is-u.
+        calls_meant ! (fm_of 𝓤 H 𝓛.laws 𝓣) fill.ended (fill.clauses 𝓛 mem run) known-fill (to_fill w e is-w) (λ r zs. zs.1.1.1.1.0 ≡ after w e is-w) (λ r zs. id⊢ 𝓤 _)
+        (and_then ! (load ! (from ! (stop !)) (look ! (pos 2 1) refl)) (and_then ! (load ! (from ! (stop !)) (look ! (pos 2 6) refl)) (and_then ! (load ! (from ! (fld ! refl (stop !))) (look_in ! (pos 2 9) (sub ! 1 refl (whole !)))) (and_then ! (load ! (from ! (fld ! refl (stop !))) (look_in ! (pos 2 10) (sub ! 1 refl (whole !)))) (and_then ! (load ! (from ! (stop !)) (look ! (pos 2 14) refl)) (no_more !)))))) (λ u r zs ez is-u.
         -- [what the unit owns; the tokens to fill; what is said of last lists; the images' tokens; the locals]
         land ! (from ! (stop !)) (init ! (pos 4 12) refl (((LL.unit-laws).lawful 𝓛).typed r _ is-u).0) $ drop ! $ move ! (1 ∷ []) $
-        fsplit ! $ drop ! $ fsplit ! $ drop ! $ fsplit ! $ drop ! $ fsplit ! $ drop ! $ fsplit ! $ drop ! $ fsplit ! $ fsplit ! $ move ! (1 ∷ []) $ feq_l ! (λ long. move ! (1 ∷ []) $ drop ! $
+        fsplit ! $ drop ! $ fsplit ! $ drop ! $ fsplit ! $ drop ! $ fsplit ! $ drop ! $ fsplit ! $ fsplit ! $ move ! (1 ∷ []) $ feq_l ! (λ long. move ! (1 ∷ []) $ drop ! $
         -- [the last list; the tokens to fill; the images' tokens; the locals]
         assigns ! (of_opd ! (load ! (from ! (stop !)) (look ! (pos 3 10) refl))) (from ! (stop !)) (init ! (pos 3 0) refl ((LL.lawful Wd.the_type Wd'.the_laws 𝓛).typed w.walked _ (is-walked w e is-w)).0) $
-        returns ! (look ! (pos 3 0) refl) $ frees_all ! 3 refl $ move ! (2 ∷ 1 ∷ 0 ∷ []) $ by ! (exits w e is-w zs.1.1.1.1.1.0 ez long)))))
+        returns ! (look ! (pos 3 0) refl) $ frees_all ! 3 refl $ move ! (2 ∷ 1 ∷ 0 ∷ []) $ by ! (exits w e is-w zs.1.1.1.1.0 ez long)))))
 
 pub rosadenca-walk-spec : {M : Type 1} → stated.statement M
 unfolding code.routine tables_of
