@@ -36,7 +36,7 @@ unfoldable pub view_of : List ℕ → ℕ → Iopb
 view_of m a =
     record {
       data_address = shown iopb.data_address m a;
-      next_address = shown iopb.next-address m a;
+      next_address = shown iopb.next_address m a;
       count = shown iopb.count m a;
       cylinder = shown iopb.cylinder m a;
       number = made_number m a;
