@@ -1,4 +1,6 @@
 // The bench: it reads a deck from standard input and prints the lines of what comes of it.
+#![tactic(auto)]
+
 ghost use Rattle.bench.specs.Within.{Within};
 
 use deck::{laid, lines};
@@ -8,7 +10,7 @@ use libc::{STDIN_FILENO, STDOUT_FILENO};
 const ROOM: usize = laid::RECORD_BYTES * laid::MOST_RECORDS + 1;
 
 // What reading gives: so many bytes, or that a read failed.
-#[derive(Drop)]
+#[derive(Clone, Copy)]
 enum Input {
     Bytes(usize),
     Failed,

@@ -1,4 +1,6 @@
 // The board's work on an accepted table: the steps of a command, a pick, and the two runs. What they hand back is what they change.
+#![tactic(auto)]
+
 pub mod pick;
 pub mod run;
 pub mod step;

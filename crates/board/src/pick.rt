@@ -13,14 +13,14 @@ use units::rooms;
 
 // What a pick sees of its table beside the record at its place: whether a record in use is bad, and whether an earlier unfinished command
 // conflicts with the one at its place.
-#[derive(Drop)]
+#[derive(Clone, Copy)]
 pub struct Sight {
     pub bad: bool,
     pub blocked: bool,
 }
 
 // What a pick answers and changes: its number, and on 0 the steps taken at its place after its step. On a refusal they are 0.
-#[derive(Drop)]
+#[derive(Clone, Copy)]
 pub struct PickedTaken {
     pub number: u8,
     pub taken: u32,

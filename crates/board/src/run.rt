@@ -17,14 +17,14 @@ use meaning::{LentDrives, Ran, Record};
 use units::rooms;
 
 // What a run answers and changes: its answer, and the steps taken of each of the 32 records after it, as they were on a refusal.
-#[derive(Drop)]
+#[derive(Clone, Copy)]
 pub struct RanTaken {
     pub ran: Ran,
     pub taken: [u32; 32],
 }
 
 // What a run sees of the records in use before it begins: whether one is bad, and the steps that are left of them.
-#[derive(Drop)]
+#[derive(Clone, Copy)]
 pub struct Seen {
     pub left: u64,
     pub spoiled: bool,

@@ -12,7 +12,7 @@ use crate::links;
 use meaning::{Copied, Drive, End, Link};
 
 // What the walk fixes of a command: its code, and how many sectors would have fitted.
-#[derive(Drop)]
+#[derive(Clone, Copy)]
 pub struct Verdict {
     pub code: u8,
     pub fitted: u8,

@@ -18,7 +18,7 @@ use meaning::{Copied, Drive, LentDrives, Record, Walked, WalkedTable};
 pub const MOST_COMMANDS: usize = 32;
 
 // What the walk answers, and where the IOPBs of its commands are, before zeros.
-#[derive(Drop)]
+#[derive(Clone, Copy)]
 pub struct Found {
     pub walked: Walked,
     pub addresses: [u32; 32],

@@ -7,7 +7,7 @@ ghost use Rattle.meaning.specs.Step as step;
 use meaning::{Drive, LentDrives, Record};
 
 // Bytes 0 to 3 of an IOPB after its command's close.
-#[derive(Drop)]
+#[derive(Clone, Copy)]
 pub struct Status {
     pub byte0: u8,
     pub code: u8,

@@ -1,5 +1,7 @@
 // One command, by its record: what kind it is, its steps and whether it is finished; what it touches, what its close posts, and whether
 // its record may stand in a table in use.
+#![tactic(auto)]
+
 pub mod closing;
 pub mod sound;
 pub mod touch;

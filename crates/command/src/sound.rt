@@ -86,7 +86,7 @@ pub fn bad_record(memory: u64, room: Room, r: Record) -> bool
 }
 
 // What is said of a record before any step: its footprint, and whether it is bad.
-#[derive(Drop)]
+#[derive(Clone, Copy)]
 pub struct Judged {
     pub footprint: Footprint,
     pub bad: bool,
@@ -118,7 +118,7 @@ fn may_block(r: Record, h: Hull, wanted: Footprint, earlier: bool) -> bool
 }
 
 // What a pick sees of a record: whether it is bad, and whether it may block the picked command.
-#[derive(Drop)]
+#[derive(Clone, Copy)]
 pub struct Looked {
     pub bad: bool,
     pub near: bool,

@@ -20,7 +20,7 @@ const STATUS_BYTES: u32 = 4;
 const FAR: u32 = 2_147_483_648;
 
 // From the first byte of some ranges to the first one past all of them.
-#[derive(Drop)]
+#[derive(Clone, Copy)]
 pub struct Hull {
     pub low: u32,
     pub high: u32,
@@ -29,7 +29,7 @@ pub struct Hull {
 }
 
 // What a command touches from its first step to its close, and how many steps it has.
-#[derive(Drop)]
+#[derive(Clone, Copy)]
 pub struct Footprint {
     // of its data
     pub hull: Hull,

@@ -1,5 +1,7 @@
 // A drive: its maxima and counts, the number of a sector and the place of a number, and the size that its image must have.
 // A largest number (counted from zero) and a number of things are two types, so that one is never taken for the other.
+#![tactic(auto)]
+
 ghost use Rattle.std.specs.Prelude.{◌≡◌, ◌+◌, ◌*◌, ◌≤◌, ◌<◌, true, ltb};
 ghost use Rattle.meaning.specs.Sectors.{maximum_on, per_cylinder, sector_count, largest_sector, sector_number, maxima_right, image_right};
 ghost use Rattle.meaning.specs.Place.{place_of, placed};

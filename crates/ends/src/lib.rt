@@ -1,5 +1,7 @@
 // The two tests for an end, of the drive and of memory: each says whether the end is passed, and how many whole sectors would have fitted
 // from the same start on (Code 9, 11 and 17); and that number as the byte that a close posts (Code 18).
+#![tactic(auto)]
+
 ghost use Rattle.std.specs.Prelude.{◌≡◌, ◌+◌, ◌-◌, ◌/◌, ltb};
 ghost use Rattle.meaning.specs.Sectors.{sector_bytes};
 ghost use Rattle.meaning.specs.Ranges.{bytes};

@@ -1,5 +1,7 @@
 // The thirty bytes of an IOPB: each field (IOPB 3 to 14), read from a slice at an address.
 // Numbers of several bytes have the high byte first. Where the thirty bytes are not all in the slice, every field is 0.
+#![tactic(auto)]
+
 ghost use Rattle.std.specs.Prelude.{◌≡◌, ◌<◌};
 ghost use Rattle.meaning.specs.Fields as iopb;
 

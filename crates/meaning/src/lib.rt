@@ -1,18 +1,19 @@
 // What the rules of the board speak of: the types, here, and the rules themselves as definitions, in specs/ (docs/RULES.md says them in
 // words). Nothing here runs. The crates above prove their code equal to these definitions.
+#![tactic(auto)]
 
 // The largest number of a kind, counted from zero.
-#[derive(Drop)]
+#[derive(Clone, Copy)]
 pub struct Maximum(pub u32);
 
 // How many there are of a kind.
-#[derive(Drop)]
+#[derive(Clone, Copy)]
 pub struct Count(pub u64);
 
 // A drive: its maximum cylinder, head and sector, and the maximum sector of its last head, each counted from zero; its write-protect mark;
 // and whether it is there at all.
 #[repr(C)]
-#[derive(Drop)]
+#[derive(Clone, Copy)]
 pub struct Drive {
     pub cylinder: u16,
     pub head: u8,
@@ -25,14 +26,14 @@ pub struct Drive {
 
 // The drives as a caller lends them: one for each of the units 0 to 3, there or absent.
 #[repr(C)]
-#[derive(Drop)]
+#[derive(Clone, Copy)]
 pub struct LentDrives {
     pub units: [Drive; 4],
 }
 
 // A place on a drive.
 #[repr(C)]
-#[derive(Drop)]
+#[derive(Clone, Copy)]
 pub struct Place {
     pub cylinder: u16,
     pub head: u8,
@@ -41,14 +42,14 @@ pub struct Place {
 
 // What the call for the place of a number answers: the place, and the call's number.
 #[repr(C)]
-#[derive(Drop)]
+#[derive(Clone, Copy)]
 pub struct Placed {
     pub place: Place,
     pub number: u8,
 }
 
 // What the walk copies from an IOPB before anything moves.
-#[derive(Drop)]
+#[derive(Clone, Copy)]
 pub struct Copied {
     // byte 0 whole: ERRS, DONE, CHEN, SGM and the command
     pub byte0: u8,
@@ -67,7 +68,7 @@ pub struct Copied {
 }
 
 // What a test for an end answers: whether the end is passed, and how many whole sectors would have fitted, from the same start on.
-#[derive(Drop)]
+#[derive(Clone, Copy)]
 pub struct End {
     pub past: bool,
     pub fitted: u64,
@@ -76,7 +77,7 @@ pub struct End {
 // One element of a link list: a range of memory, by where it begins and how many bytes it has. It fills its eight bytes, so that a table
 // has no byte that is left unset, and is copied and filled as plain bytes.
 #[repr(C)]
-#[derive(Drop)]
+#[derive(Clone, Copy)]
 pub struct Link {
     pub address: u32,
     pub length: u16,
@@ -86,7 +87,7 @@ pub struct Link {
 
 // One accepted command. It holds what cannot be worked out again; its kind, its steps and what it touches follow from these.
 #[repr(C)]
-#[derive(Drop)]
+#[derive(Clone, Copy)]
 pub struct Record {
     // where its IOPB is
     pub iopb: u32,
@@ -113,7 +114,7 @@ pub struct Record {
 
 // What the walk answers: its number, and how many commands there are (0 on a refusal).
 #[repr(C)]
-#[derive(Drop)]
+#[derive(Clone, Copy)]
 pub struct Walked {
     pub number: u8,
     pub commands: usize,
@@ -121,7 +122,7 @@ pub struct Walked {
 
 // What a run answers: steps taken, picks refused (none in a run as written), its number, and whether all commands are finished.
 #[repr(C)]
-#[derive(Drop)]
+#[derive(Clone, Copy)]
 pub struct Ran {
     pub steps: u64,
     pub refused: u64,
@@ -150,7 +151,7 @@ pub struct RanTable {
 
 // A part of an image, named by where it begins and by its length: what a look gives a program that cannot be handed the part itself.
 #[repr(C)]
-#[derive(Drop)]
+#[derive(Clone, Copy)]
 pub struct Part {
     pub at: usize,
     pub length: usize,
@@ -158,7 +159,7 @@ pub struct Part {
 
 // One IOPB as a viewer shows it: the number of the viewer's making, and every field, each 0 where that number is not.
 #[repr(C)]
-#[derive(Drop)]
+#[derive(Clone, Copy)]
 pub struct Iopb {
     pub data_address: u32,
     pub next_address: u32,

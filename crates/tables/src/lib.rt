@@ -1,5 +1,7 @@
 // The forms by value: a pick and both runs on a table that goes in and comes back by value. What they change is worked out in `board`, as it
 // is for a lent table, and laid here into the table.
+#![tactic(auto)]
+
 ghost use Rattle.std.specs.Prelude.{◌≡◌, ◌≤◌, ◌<◌};
 ghost use Rattle.meaning.specs.Store.{lent, images};
 ghost use Rattle.meaning.specs.Drives.{drives_of};

@@ -1,5 +1,7 @@
 // The units: which drive each has, whether the images of those that are there have the right sizes, how much room each has, and a look at
 // one sector of a unit. Nothing of what is lent for an absent unit is looked at.
+#![tactic(auto)]
+
 pub mod look;
 pub mod rooms;
 

@@ -8,14 +8,14 @@ use crate::drive_of;
 use meaning::{Count, Drive, LentDrives};
 
 // What a unit has: how many sectors, none where it is absent, and its write-protect mark.
-#[derive(Drop)]
+#[derive(Clone, Copy)]
 pub struct Room {
     pub sectors: Count,
     pub protected: bool,
 }
 
 // The rooms of the units 0 to 3.
-#[derive(Drop)]
+#[derive(Clone, Copy)]
 pub struct Rooms {
     pub units: [Room; 4],
 }

@@ -1,6 +1,8 @@
 // A viewer over lent memory shows one IOPB field by field: it keeps the memory and the address, and the number of its making (View 1 to 7).
 // The functions over the viewer are thin: each takes it apart and leaves the work to a function over the slice and the address. `view`
 // shows all fields at once, to a caller that keeps no viewer.
+#![tactic(auto)]
+
 ghost use Rattle.std.specs.Prelude.{◌≡◌};
 ghost use Rattle.meaning.specs.Fields as iopb;
 ghost use Rattle.meaning.specs.View.{made_number, made, view_of};
@@ -8,7 +10,7 @@ ghost use Rattle.viewer.specs.Seen.{seen};
 
 use meaning::Iopb;
 
-#[derive(Drop)]
+#[derive(Clone, Copy)]
 pub struct Viewer<'a> {
     pub memory: &'a [u8],
     pub at: u32,
