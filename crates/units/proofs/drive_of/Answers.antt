@@ -2,7 +2,6 @@
 use native.Mathlib.Omega.{arith}
 use borrow.Author.Tests.{le-ltb}
 use Rattle.meaning.specs.Drives.{drive_of}
-use borrow.Author.Rules.{rules}
 use Rattle.units.proofs.drive_of.Goals as goal
 
 pub returns-then-unit-eq0 : goal.returns-then-unit-eq0

@@ -1,7 +1,6 @@
 -- `images_wrong` meets its contract.
 use Rattle.meaning.proofs.Tests.{or_no}
 use Rattle.meaning.specs.Sizes.{unit_wrong, images_wrong}
-use borrow.Author.Rules.{rules}
 use Rattle.units.proofs.images_wrong.Goals as goal
 
 pub returns-then-unit_wrong : goal.returns-then-unit_wrong

@@ -1,5 +1,4 @@
 -- `unit_wrong` meets its contract.
-use borrow.Author.Rules.{rules}
 use Rattle.units.proofs.unit_wrong.Goals as goal
 
 pub returns-then-d : goal.returns-then-d

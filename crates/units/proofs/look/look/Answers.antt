@@ -8,7 +8,6 @@ use lib.ListN.{take, drop}
 use Rattle.meaning.specs.Drives.{drives_of}
 use mathlib.Core.List.{List, []}
 use mathlib.Core.Path.{refl, sym, ap, ◌∙◌}
-use borrow.Author.Rules.{rules}
 use Rattle.units.proofs.look.look.Goals as goal
 
 pub returns-then-look_number-ne0 : goal.returns-then-look_number-ne0

@@ -1,7 +1,6 @@
 -- `look_number` meets its contract.
 use mathlib.Core.List.{[]}
 use Rattle.meaning.specs.Look.{look_number}
-use borrow.Author.Rules.{rules}
 use Rattle.units.proofs.look.look_number.Goals as goal
 
 pub returns-then-images_wrong : goal.returns-then-images_wrong

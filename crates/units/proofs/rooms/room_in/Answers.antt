@@ -1,6 +1,5 @@
 -- `room_in` meets its contract.
 use Rattle.units.specs.Rooms.{room_in}
-use borrow.Author.Rules.{rules}
 use Rattle.units.proofs.rooms.room_in.Goals as goal
 
 pub returns-then-d : goal.returns-then-d

@@ -2,7 +2,6 @@
 use native.Mathlib.Omega.{arith}
 use borrow.Author.Tests.{le-ltb}
 use Rattle.units.specs.Rooms.{room_of}
-use borrow.Author.Rules.{rules}
 use Rattle.units.proofs.rooms.room_of.Goals as goal
 
 pub returns-then-unit-eq0 : goal.returns-then-unit-eq0

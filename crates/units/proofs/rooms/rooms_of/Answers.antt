@@ -2,7 +2,6 @@
 use mathlib.Core.Path.{ap, ◌∙◌}
 use mathlib.Core.List.{[], ◌∷◌}
 use Rattle.units.specs.Rooms.{room_in}
-use borrow.Author.Rules.{rules}
 use Rattle.units.proofs.rooms.rooms_of.Goals as goal
 
 pub returns : goal.returns
