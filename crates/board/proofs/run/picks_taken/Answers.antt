@@ -63,51 +63,50 @@ foot-at c j h = let e = c.loop-k-test.false in
     c.loop-k.invariant.1.each j (omega arith)
 
 -- the record at the place that is picked
-here : (c : After-with_taken-r) → let a = c.args in let l = c.picks in c.with_taken-r.result ≡ get_or (table_with l.taken a.table) (get_or a.picks.now l.next 0) no_record
-here c = let a = c.args in
+here : (c : After-with_taken-r) → get_or c.args.picks.now c.picks.next 0 < most_commands → let a = c.args in let l = c.picks in c.with_taken-r.result ≡ get_or (table_with l.taken a.table) (get_or a.picks.now l.next 0) no_record
+here c h = let a = c.args in
     let l = c.picks in
-    c.with_taken-r.ensures ∙ at_place (drives_of a.l) a.commands a.picks.now (lent a.memory.now (images a.image0.now a.image1.now a.image2.now a.image3.now)) a.table (lent l.memory (images l.image0 l.image1 l.image2 l.image3)) l.taken l.searched l.steps l.passed l.next l.invariant (get_or a.picks.now l.next 0) (in_table c.before.before)
+    c.with_taken-r.ensures ∙ at_place (drives_of a.l) a.commands a.picks.now (lent a.memory.now (images a.image0.now a.image1.now a.image2.now a.image3.now)) a.table (lent l.memory (images l.image0 l.image1 l.image2 l.image3)) l.taken l.searched l.steps l.passed l.next l.invariant (get_or a.picks.now l.next 0) h
 
-inside : (c : In-loop-earlier) → let a = c.args in let l = c.picks in c.loop-earlier.earlier < length (table_with l.taken a.table)
-inside c = let a = c.args in
+inside : (c : In-loop-earlier) → get_or c.args.picks.now c.picks.next 0 < most_commands → let a = c.args in let l = c.picks in c.loop-earlier.earlier < length (table_with l.taken a.table)
+inside c h = let a = c.args in
     let l = c.picks in
-    let h = in_table c.before.before.before.before.before.before.before in
     let b = c.loop-earlier-test.true in
-    omega (arith, length_with l.taken a.table, l.invariant.full)
+    omega (arith, h, length_with l.taken a.table, l.invariant.full)
 
 -- the record that the search has come to, and what of it is asked by footprints
-there : (c : In-loop-earlier) → let a = c.args in let l = c.picks in let k = c.loop-earlier.earlier in with_taken (get_or l.taken k 0) (get_or a.table k no_record) ≡ get_or (table_with l.taken a.table) k no_record
-there c = let a = c.args in
+there : (c : In-loop-earlier) → get_or c.args.picks.now c.picks.next 0 < most_commands → let a = c.args in let l = c.picks in let k = c.loop-earlier.earlier in with_taken (get_or l.taken k 0) (get_or a.table k no_record) ≡ get_or (table_with l.taken a.table) k no_record
+there c h = let a = c.args in
     let l = c.picks in
-    at_place (drives_of a.l) a.commands a.picks.now (lent a.memory.now (images a.image0.now a.image1.now a.image2.now a.image3.now)) a.table (lent l.memory (images l.image0 l.image1 l.image2 l.image3)) l.taken l.searched l.steps l.passed l.next l.invariant c.loop-earlier.earlier (let h = in_table c.before.before.before.before.before.before.before in let b = c.loop-earlier-test.true in omega arith)
+    at_place (drives_of a.l) a.commands a.picks.now (lent a.memory.now (images a.image0.now a.image1.now a.image2.now a.image3.now)) a.table (lent l.memory (images l.image0 l.image1 l.image2 l.image3)) l.taken l.searched l.steps l.passed l.next l.invariant c.loop-earlier.earlier (let b = c.loop-earlier-test.true in omega (arith, h))
 
-asked : (c : In-loop-earlier) (b : Bool) → let a = c.args in let l = c.picks in let k = c.loop-earlier.earlier in let p = get_or a.picks.now l.next 0 in
+asked : (c : In-loop-earlier) → get_or c.args.picks.now c.picks.next 0 < most_commands → (b : Bool) → let a = c.args in let l = c.picks in let k = c.loop-earlier.earlier in let p = get_or a.picks.now l.next 0 in
     blocking (with_taken (get_or l.taken p 0) (get_or a.table p no_record)) (with_taken (get_or l.taken k 0) (get_or a.table k no_record)) ≡ b → blocking c.with_taken-r.result (get_or (table_with l.taken a.table) k no_record) ≡ b
-asked c b q = (λ j. blocking (c.with_taken-r.ensures j) (sym (there c) j)) ∙ q
+asked c h b q = (λ j. blocking (c.with_taken-r.ensures j) (sym (there c h) j)) ∙ q
 
 -- its footprint, and that of the place that is picked
-its-foot : (c : In-loop-earlier) → let k = c.loop-earlier.earlier in get_or c.loop-k.footprints k no_footprint ≡ footprint_of (get_or c.args.table k no_record)
-its-foot c = foot-at c.before.before.before.before.before.before.before.before.before.before.before c.loop-earlier.earlier (let h = in_table c.before.before.before.before.before.before.before in let b = c.loop-earlier-test.true in omega arith)
+its-foot : (c : In-loop-earlier) → ((j : ℕ) → j < most_commands → get_or c.loop-k.footprints j no_footprint ≡ footprint_of (get_or c.args.table j no_record)) → get_or c.args.picks.now c.picks.next 0 < most_commands → let k = c.loop-earlier.earlier in get_or c.loop-k.footprints k no_footprint ≡ footprint_of (get_or c.args.table k no_record)
+its-foot c f h = f c.loop-earlier.earlier (let b = c.loop-earlier-test.true in omega (arith, h))
 
-wanted-foot : (c : In-loop-earlier) → let p = get_or c.args.picks.now c.picks.next 0 in get_or c.loop-k.footprints p no_footprint ≡ footprint_of (get_or c.args.table p no_record)
-wanted-foot c = foot-at c.before.before.before.before.before.before.before.before.before.before.before (get_or c.args.picks.now c.picks.next 0) (in_table c.before.before.before.before.before.before.before)
+wanted-foot : (c : In-loop-earlier) → ((j : ℕ) → j < most_commands → get_or c.loop-k.footprints j no_footprint ≡ footprint_of (get_or c.args.table j no_record)) → get_or c.args.picks.now c.picks.next 0 < most_commands → let p = get_or c.args.picks.now c.picks.next 0 in get_or c.loop-k.footprints p no_footprint ≡ footprint_of (get_or c.args.table p no_record)
+wanted-foot c f h = f (get_or c.args.picks.now c.picks.next 0) h
 
 -- what the search has passed does not block; past the search nothing does, and the number of the pick is 0
-clear : (c : At-loop-earlier) → let a = c.args in let l = c.picks in let p = get_or a.picks.now l.next 0 in let t = table_with l.taken a.table in
+clear : (c : At-loop-earlier) → (let a = c.args in let l = c.picks in c.with_taken-r.result ≡ get_or (table_with l.taken a.table) (get_or a.picks.now l.next 0) no_record) → let a = c.args in let l = c.picks in let p = get_or a.picks.now l.next 0 in let t = table_with l.taken a.table in
     some_of (blocking (get_or t p no_record)) (take c.loop-earlier.earlier t) ≡ false
-clear c = let a = c.args in
+clear c w = let a = c.args in
     let l = c.picks in
-    ap (λ (x : Record). some_of (blocking x) (take c.loop-earlier.earlier (table_with l.taken a.table))) (sym (here c.before.before.before.before)) ∙ c.loop-earlier.invariant.3
+    ap (λ (x : Record). some_of (blocking x) (take c.loop-earlier.earlier (table_with l.taken a.table))) (sym w) ∙ c.loop-earlier.invariant.3
 
-free : (c : After-loop-earlier) → let a = c.args in let l = c.picks in place_number (table_with l.taken a.table) a.commands (get_or a.picks.now l.next 0) ≡ 0
+free : (c : After-loop-earlier) → (let a = c.args in let l = c.picks in c.with_taken-r.result ≡ get_or (table_with l.taken a.table) (get_or a.picks.now l.next 0) no_record) → (let a = c.args in let l = c.picks in let p = get_or a.picks.now l.next 0 in let t = table_with l.taken a.table in some_of (blocking (get_or t p no_record)) (take c.loop-earlier.earlier t) ≡ false) → let a = c.args in let l = c.picks in place_number (table_with l.taken a.table) a.commands (get_or a.picks.now l.next 0) ≡ 0
 unfolding waits
-free c = let a = c.args in
+free c w x = let a = c.args in
     let l = c.picks in
     let p = get_or a.picks.now l.next 0 in
     let t = table_with l.taken a.table in
     let all : p ≡ c.loop-earlier.earlier = let h = c.loop-earlier.invariant.0 in let e = c.loop-earlier-test.false in omega arith in
-    may_go t a.commands p c.if-commands-place.false (ap finished (sym (here c.before.before.before.before.before)) ∙ sym c.finished.ensures ∙ c.if-finished.false)
-    (ap (λ (k : ℕ). some_of (blocking (get_or t p no_record)) (take k t)) all ∙ clear c.before)
+    may_go t a.commands p c.if-commands-place.false (ap finished (sym w) ∙ sym c.finished.ensures ∙ c.if-finished.false)
+    (ap (λ (k : ℕ). some_of (blocking (get_or t p no_record)) (take k t)) all ∙ x)
 
 pub loop-k-init : goal.loop-k-init
 loop-k-init c = let a = c.args in
@@ -209,7 +208,7 @@ picks-preserved-then-finished c = let a = c.args in
     let l = c.picks in
     let p = get_or a.picks.now l.next 0 in
     let t = table_with l.taken a.table in
-    let over = ap finished (sym (here (goal.at.picks-preserved-then-finished c).After-with_taken-r)) ∙ sym c.finished.ensures ∙ c.if-finished.true in
+    let over = ap finished (sym (here (goal.at.picks-preserved-then-finished c).After-with_taken-r (in_table (goal.at.picks-preserved-then-finished c).Else-commands-place))) ∙ sym c.finished.ensures ∙ c.if-finished.true in
     pick_passed_over (drives_of a.l) a.commands a.picks.now (lent a.memory.now (images a.image0.now a.image1.now a.image2.now a.image3.now)) a.table (lent l.memory (images l.image0 l.image1 l.image2 l.image3)) l.taken l.searched l.steps l.passed l.next l.invariant c.picks-test.true (λ q. omega (arith, is_finished t a.commands p c.if-commands-place.false over, q))
 
 pub offset_bounds-footprints-place : goal.offset_bounds-footprints-place
@@ -229,7 +228,7 @@ loop-earlier-init c = let a = c.args in
     let l = c.picks in
     let p = get_or a.picks.now l.next 0 in
     let t = table_with l.taken a.table in
-    (l.invariant.search.within p, refl, refl, ap (λ (x : Record). some_of (blocking x) (take (get_or l.searched p 0) t)) (here (goal.at.loop-earlier-init c).After-with_taken-r) ∙ l.invariant.search.free p)
+    (l.invariant.search.within p, refl, refl, ap (λ (x : Record). some_of (blocking x) (take (get_or l.searched p 0) t)) (here (goal.at.loop-earlier-init c).After-with_taken-r (in_table (goal.at.loop-earlier-init c).Else-commands-place)) ∙ l.invariant.search.free p)
 
 pub offset_bounds-footprints-earlier : goal.offset_bounds-footprints-earlier
 offset_bounds-footprints-earlier c = omega (arith, in_table (goal.at.offset_bounds-footprints-earlier c).Else-commands-place)
@@ -258,8 +257,8 @@ loop-earlier-preserved-then-e-taken c = let a = c.args in
       omega arith,
       e.invariant.1,
       e.invariant.2,
-      none_more no_record (blocking c.with_taken-r.result) t e.earlier (inside (goal.at.loop-earlier-preserved-then-e-taken c).In-loop-earlier) e.invariant.3
-          (asked (goal.at.loop-earlier-preserved-then-e-taken c).In-loop-earlier false (done_free (get_or c.loop-k.footprints e.earlier no_footprint) (get_or c.loop-k.footprints p no_footprint) (get_or a.table e.earlier no_record) (get_or a.table p no_record) (get_or l.taken e.earlier 0) (get_or l.taken p 0) (its-foot (goal.at.loop-earlier-preserved-then-e-taken c).In-loop-earlier) (wanted-foot (goal.at.loop-earlier-preserved-then-e-taken c).In-loop-earlier) c.if-e-taken.true)),
+      none_more no_record (blocking c.with_taken-r.result) t e.earlier (inside (goal.at.loop-earlier-preserved-then-e-taken c).In-loop-earlier (in_table (goal.at.loop-earlier-preserved-then-e-taken c).Else-commands-place)) e.invariant.3
+          (asked (goal.at.loop-earlier-preserved-then-e-taken c).In-loop-earlier (in_table (goal.at.loop-earlier-preserved-then-e-taken c).Else-commands-place) false (done_free (get_or c.loop-k.footprints e.earlier no_footprint) (get_or c.loop-k.footprints p no_footprint) (get_or a.table e.earlier no_record) (get_or a.table p no_record) (get_or l.taken e.earlier 0) (get_or l.taken p 0) (its-foot (goal.at.loop-earlier-preserved-then-e-taken c).In-loop-earlier (foot-at (goal.at.loop-earlier-preserved-then-e-taken c).Else-number-ne0) (in_table (goal.at.loop-earlier-preserved-then-e-taken c).Else-commands-place)) (wanted-foot (goal.at.loop-earlier-preserved-then-e-taken c).In-loop-earlier (foot-at (goal.at.loop-earlier-preserved-then-e-taken c).Else-number-ne0) (in_table (goal.at.loop-earlier-preserved-then-e-taken c).Else-commands-place)) c.if-e-taken.true)),
     )
 
 pub overflow_add-earlier-then-not-footprints_meet : goal.overflow_add-earlier-then-not-footprints_meet
@@ -277,8 +276,8 @@ loop-earlier-preserved-then-not-footprints_meet c = let a = c.args in
       omega arith,
       e.invariant.1,
       e.invariant.2,
-      none_more no_record (blocking c.with_taken-r.result) t e.earlier (inside (goal.at.loop-earlier-preserved-then-not-footprints_meet c).In-loop-earlier) e.invariant.3
-          (asked (goal.at.loop-earlier-preserved-then-not-footprints_meet c).In-loop-earlier false (apart_free (get_or c.loop-k.footprints e.earlier no_footprint) (get_or c.loop-k.footprints p no_footprint) (get_or a.table e.earlier no_record) (get_or a.table p no_record) (get_or l.taken e.earlier 0) (get_or l.taken p 0) (its-foot (goal.at.loop-earlier-preserved-then-not-footprints_meet c).In-loop-earlier) (wanted-foot (goal.at.loop-earlier-preserved-then-not-footprints_meet c).In-loop-earlier) c.if-e-taken.false (sym c.footprints_meet.ensures ∙ c.if-not-footprints_meet.true))),
+      none_more no_record (blocking c.with_taken-r.result) t e.earlier (inside (goal.at.loop-earlier-preserved-then-not-footprints_meet c).In-loop-earlier (in_table (goal.at.loop-earlier-preserved-then-not-footprints_meet c).Else-commands-place)) e.invariant.3
+          (asked (goal.at.loop-earlier-preserved-then-not-footprints_meet c).In-loop-earlier (in_table (goal.at.loop-earlier-preserved-then-not-footprints_meet c).Else-commands-place) false (apart_free (get_or c.loop-k.footprints e.earlier no_footprint) (get_or c.loop-k.footprints p no_footprint) (get_or a.table e.earlier no_record) (get_or a.table p no_record) (get_or l.taken e.earlier 0) (get_or l.taken p 0) (its-foot (goal.at.loop-earlier-preserved-then-not-footprints_meet c).In-loop-earlier (foot-at (goal.at.loop-earlier-preserved-then-not-footprints_meet c).Else-number-ne0) (in_table (goal.at.loop-earlier-preserved-then-not-footprints_meet c).Else-commands-place)) (wanted-foot (goal.at.loop-earlier-preserved-then-not-footprints_meet c).In-loop-earlier (foot-at (goal.at.loop-earlier-preserved-then-not-footprints_meet c).Else-number-ne0) (in_table (goal.at.loop-earlier-preserved-then-not-footprints_meet c).Else-commands-place)) c.if-e-taken.false (sym c.footprints_meet.ensures ∙ c.if-not-footprints_meet.true))),
     )
 
 pub offset_bounds-table-earlier : goal.offset_bounds-table-earlier
@@ -312,10 +311,10 @@ picks-preserved-then-ranges_conflict c = let a = c.args in
     let p = get_or a.picks.now l.next 0 in
     let t = table_with l.taken a.table in
     let e = c.loop-earlier in
-    let blocked = ap (λ (x : Record). blocking x (get_or t e.earlier no_record)) (sym (here (goal.at.picks-preserved-then-ranges_conflict c).After-with_taken-r)) ∙ asked (goal.at.picks-preserved-then-ranges_conflict c).In-loop-earlier true (by_ranges (get_or c.loop-k.footprints e.earlier no_footprint) (get_or c.loop-k.footprints p no_footprint) (get_or a.table e.earlier no_record) (get_or a.table p no_record) (get_or l.taken e.earlier 0) (get_or l.taken p 0) (its-foot (goal.at.picks-preserved-then-ranges_conflict c).In-loop-earlier) (wanted-foot (goal.at.picks-preserved-then-ranges_conflict c).In-loop-earlier) true c.if-e-taken.false (sym c.ranges_conflict.ensures ∙ c.if-ranges_conflict.true)) in
-    let open-yet = ap finished (sym (here (goal.at.picks-preserved-then-ranges_conflict c).After-with_taken-r)) ∙ sym c.finished.ensures ∙ c.if-finished.false in
-    let six = has_to_wait t a.commands p c.if-commands-place.false open-yet (some_here no_record (blocking (get_or t p no_record)) t e.earlier p c.loop-earlier-test.true (inside (goal.at.picks-preserved-then-ranges_conflict c).In-loop-earlier) blocked) in
-    let to = searched_to t l.searched p e.earlier l.invariant.search (in_table (goal.at.picks-preserved-then-ranges_conflict c).Else-commands-place) e.invariant.0 (clear (goal.at.picks-preserved-then-ranges_conflict c).At-loop-earlier) in
+    let blocked = ap (λ (x : Record). blocking x (get_or t e.earlier no_record)) (sym (here (goal.at.picks-preserved-then-ranges_conflict c).After-with_taken-r (in_table (goal.at.picks-preserved-then-ranges_conflict c).Else-commands-place))) ∙ asked (goal.at.picks-preserved-then-ranges_conflict c).In-loop-earlier (in_table (goal.at.picks-preserved-then-ranges_conflict c).Else-commands-place) true (by_ranges (get_or c.loop-k.footprints e.earlier no_footprint) (get_or c.loop-k.footprints p no_footprint) (get_or a.table e.earlier no_record) (get_or a.table p no_record) (get_or l.taken e.earlier 0) (get_or l.taken p 0) (its-foot (goal.at.picks-preserved-then-ranges_conflict c).In-loop-earlier (foot-at (goal.at.picks-preserved-then-ranges_conflict c).Else-number-ne0) (in_table (goal.at.picks-preserved-then-ranges_conflict c).Else-commands-place)) (wanted-foot (goal.at.picks-preserved-then-ranges_conflict c).In-loop-earlier (foot-at (goal.at.picks-preserved-then-ranges_conflict c).Else-number-ne0) (in_table (goal.at.picks-preserved-then-ranges_conflict c).Else-commands-place)) true c.if-e-taken.false (sym c.ranges_conflict.ensures ∙ c.if-ranges_conflict.true)) in
+    let open-yet = ap finished (sym (here (goal.at.picks-preserved-then-ranges_conflict c).After-with_taken-r (in_table (goal.at.picks-preserved-then-ranges_conflict c).Else-commands-place))) ∙ sym c.finished.ensures ∙ c.if-finished.false in
+    let six = has_to_wait t a.commands p c.if-commands-place.false open-yet (some_here no_record (blocking (get_or t p no_record)) t e.earlier p c.loop-earlier-test.true (inside (goal.at.picks-preserved-then-ranges_conflict c).In-loop-earlier (in_table (goal.at.picks-preserved-then-ranges_conflict c).Else-commands-place)) blocked) in
+    let to = searched_to t l.searched p e.earlier l.invariant.search (in_table (goal.at.picks-preserved-then-ranges_conflict c).Else-commands-place) e.invariant.0 (clear (goal.at.picks-preserved-then-ranges_conflict c).At-loop-earlier (here (goal.at.picks-preserved-then-ranges_conflict c).After-with_taken-r (in_table (goal.at.picks-preserved-then-ranges_conflict c).Else-commands-place))) in
     subst (λ (x : List ℕ). PicksLeft (drives_of a.l) a.commands a.picks.now (lent a.memory.now (images a.image0.now a.image1.now a.image2.now a.image3.now)) a.table (lent l.memory (images l.image0 l.image1 l.image2 l.image3)) l.taken (set x p e.earlier) l.steps (e.passed + 1) (l.next + 1)) (sym e.invariant.1)
     (subst (λ (x : ℕ). PicksLeft (drives_of a.l) a.commands a.picks.now (lent a.memory.now (images a.image0.now a.image1.now a.image2.now a.image3.now)) a.table (lent l.memory (images l.image0 l.image1 l.image2 l.image3)) l.taken (set l.searched p e.earlier) l.steps (x + 1) (l.next + 1)) (sym e.invariant.2)
     (pick_passed_over (drives_of a.l) a.commands a.picks.now (lent a.memory.now (images a.image0.now a.image1.now a.image2.now a.image3.now)) a.table (lent l.memory (images l.image0 l.image1 l.image2 l.image3)) l.taken (set l.searched p e.earlier) l.steps l.passed l.next (searched_on (drives_of a.l) a.commands a.picks.now (lent a.memory.now (images a.image0.now a.image1.now a.image2.now a.image3.now)) a.table (lent l.memory (images l.image0 l.image1 l.image2 l.image3)) l.taken l.searched l.steps l.passed l.next l.invariant (set l.searched p e.earlier) to) c.picks-test.true (λ q. omega (arith, six, q))))
@@ -335,8 +334,8 @@ loop-earlier-preserved c = let a = c.args in
       omega arith,
       e.invariant.1,
       e.invariant.2,
-      none_more no_record (blocking c.with_taken-r.result) t e.earlier (inside (goal.at.loop-earlier-preserved c).In-loop-earlier) e.invariant.3
-          (asked (goal.at.loop-earlier-preserved c).In-loop-earlier false (by_ranges (get_or c.loop-k.footprints e.earlier no_footprint) (get_or c.loop-k.footprints p no_footprint) (get_or a.table e.earlier no_record) (get_or a.table p no_record) (get_or l.taken e.earlier 0) (get_or l.taken p 0) (its-foot (goal.at.loop-earlier-preserved c).In-loop-earlier) (wanted-foot (goal.at.loop-earlier-preserved c).In-loop-earlier) false c.if-e-taken.false (sym c.ranges_conflict.ensures ∙ c.if-ranges_conflict.false))),
+      none_more no_record (blocking c.with_taken-r.result) t e.earlier (inside (goal.at.loop-earlier-preserved c).In-loop-earlier (in_table (goal.at.loop-earlier-preserved c).Else-commands-place)) e.invariant.3
+          (asked (goal.at.loop-earlier-preserved c).In-loop-earlier (in_table (goal.at.loop-earlier-preserved c).Else-commands-place) false (by_ranges (get_or c.loop-k.footprints e.earlier no_footprint) (get_or c.loop-k.footprints p no_footprint) (get_or a.table e.earlier no_record) (get_or a.table p no_record) (get_or l.taken e.earlier 0) (get_or l.taken p 0) (its-foot (goal.at.loop-earlier-preserved c).In-loop-earlier (foot-at (goal.at.loop-earlier-preserved c).Else-number-ne0) (in_table (goal.at.loop-earlier-preserved c).Else-commands-place)) (wanted-foot (goal.at.loop-earlier-preserved c).In-loop-earlier (foot-at (goal.at.loop-earlier-preserved c).Else-number-ne0) (in_table (goal.at.loop-earlier-preserved c).Else-commands-place)) false c.if-e-taken.false (sym c.ranges_conflict.ensures ∙ c.if-ranges_conflict.false))),
     )
 
 pub offset_bounds-searched-place-in-picks : goal.offset_bounds-searched-place-in-picks
@@ -348,13 +347,13 @@ bounds-searched-place-in-picks c = let e = ap length c.loop-earlier.invariant.1 
 pub picks_alike-n-requires : goal.picks_alike-n-requires
 picks_alike-n-requires c = let a = c.args in
     let l = c.picks in
-    (c.picks-test.true, rw c.remaining-in-picks.ensures (some_left (drives_of a.l) a.commands a.picks.now (lent a.memory.now (images a.image0.now a.image1.now a.image2.now a.image3.now)) a.table (lent l.memory (images l.image0 l.image1 l.image2 l.image3)) l.taken l.searched l.steps l.passed l.next l.invariant c.with_taken-r.result (here (goal.at.picks_alike-n-requires c).After-with_taken-r) (in_table (goal.at.picks_alike-n-requires c).Else-commands-place) (free (goal.at.picks_alike-n-requires c).After-loop-earlier)))
+    (c.picks-test.true, rw c.remaining-in-picks.ensures (some_left (drives_of a.l) a.commands a.picks.now (lent a.memory.now (images a.image0.now a.image1.now a.image2.now a.image3.now)) a.table (lent l.memory (images l.image0 l.image1 l.image2 l.image3)) l.taken l.searched l.steps l.passed l.next l.invariant c.with_taken-r.result (here (goal.at.picks_alike-n-requires c).After-with_taken-r (in_table (goal.at.picks_alike-n-requires c).Else-commands-place)) (in_table (goal.at.picks_alike-n-requires c).Else-commands-place) (free (goal.at.picks_alike-n-requires c).After-loop-earlier (here (goal.at.picks_alike-n-requires c).After-with_taken-r (in_table (goal.at.picks_alike-n-requires c).Else-commands-place)) (clear (goal.at.picks_alike-n-requires c).At-loop-earlier (here (goal.at.picks_alike-n-requires c).After-with_taken-r (in_table (goal.at.picks_alike-n-requires c).Else-commands-place))))))
 
 pub take_steps-requires : goal.take_steps-requires
 take_steps-requires c = let a = c.args in
     let l = c.picks in
     let few = rw c.remaining-in-picks.ensures at c.picks_alike-n.ensures.few in
-    (few, pick_ready (drives_of a.l) a.commands a.picks.now (lent a.memory.now (images a.image0.now a.image1.now a.image2.now a.image3.now)) a.table (lent l.memory (images l.image0 l.image1 l.image2 l.image3)) l.taken l.searched l.steps l.passed l.next l.invariant c.with_taken-r.result (here (goal.at.take_steps-requires c).After-with_taken-r) (in_table (goal.at.take_steps-requires c).Else-commands-place) (free (goal.at.take_steps-requires c).After-loop-earlier) c.picks_alike-n.result few)
+    (few, pick_ready (drives_of a.l) a.commands a.picks.now (lent a.memory.now (images a.image0.now a.image1.now a.image2.now a.image3.now)) a.table (lent l.memory (images l.image0 l.image1 l.image2 l.image3)) l.taken l.searched l.steps l.passed l.next l.invariant c.with_taken-r.result (here (goal.at.take_steps-requires c).After-with_taken-r (in_table (goal.at.take_steps-requires c).Else-commands-place)) (in_table (goal.at.take_steps-requires c).Else-commands-place) (free (goal.at.take_steps-requires c).After-loop-earlier (here (goal.at.take_steps-requires c).After-with_taken-r (in_table (goal.at.take_steps-requires c).Else-commands-place)) (clear (goal.at.take_steps-requires c).At-loop-earlier (here (goal.at.take_steps-requires c).After-with_taken-r (in_table (goal.at.take_steps-requires c).Else-commands-place)))) c.picks_alike-n.result few)
 
 pub overflow_add-taken : goal.overflow_add-taken
 unfolding remaining
@@ -388,11 +387,11 @@ picks-preserved c = let a = c.args in
     let r = c.with_taken-r.result in
     let n = c.picks_alike-n in
     let few = rw c.remaining-in-picks.ensures at c.picks_alike-n.ensures.few in
-    let to = searched_to t l.searched p e.earlier l.invariant.search (in_table (goal.at.picks-preserved c).Else-commands-place) e.invariant.0 (clear (goal.at.picks-preserved c).At-loop-earlier) in
+    let to = searched_to t l.searched p e.earlier l.invariant.search (in_table (goal.at.picks-preserved c).Else-commands-place) e.invariant.0 (clear (goal.at.picks-preserved c).At-loop-earlier (here (goal.at.picks-preserved c).After-with_taken-r (in_table (goal.at.picks-preserved c).Else-commands-place))) in
     subst (λ (x : List ℕ). PicksLeft (drives_of a.l) a.commands a.picks.now (lent a.memory.now (images a.image0.now a.image1.now a.image2.now a.image3.now)) a.table (lent v.new.memory (images v.new.image0 v.new.image1 v.new.image2 v.new.image3)) (set l.taken p (r.taken + n.result)) (set x p e.earlier) (l.steps + n.result) e.passed (l.next + n.result)) (sym e.invariant.1)
     (subst (λ (x : ℕ). PicksLeft (drives_of a.l) a.commands a.picks.now (lent a.memory.now (images a.image0.now a.image1.now a.image2.now a.image3.now)) a.table (lent v.new.memory (images v.new.image0 v.new.image1 v.new.image2 v.new.image3)) (set l.taken p (r.taken + n.result)) (set l.searched p e.earlier) (l.steps + n.result) x (l.next + n.result)) (sym e.invariant.2)
     (picks_in_a_row (drives_of a.l) a.commands a.picks.now (lent a.memory.now (images a.image0.now a.image1.now a.image2.now a.image3.now)) a.table (set l.searched p e.earlier) l.passed p (in_table (goal.at.picks-preserved c).Else-commands-place) n.result (lent l.memory (images l.image0 l.image1 l.image2 l.image3)) l.taken l.steps l.next r (lent v.new.memory (images v.new.image0 v.new.image1 v.new.image2 v.new.image3))
-    (searched_on (drives_of a.l) a.commands a.picks.now (lent a.memory.now (images a.image0.now a.image1.now a.image2.now a.image3.now)) a.table (lent l.memory (images l.image0 l.image1 l.image2 l.image3)) l.taken l.searched l.steps l.passed l.next l.invariant (set l.searched p e.earlier) to) (here (goal.at.picks-preserved c).After-with_taken-r) (λ _. free (goal.at.picks-preserved c).After-loop-earlier) few n.ensures.there n.ensures.same v.ensures))
+    (searched_on (drives_of a.l) a.commands a.picks.now (lent a.memory.now (images a.image0.now a.image1.now a.image2.now a.image3.now)) a.table (lent l.memory (images l.image0 l.image1 l.image2 l.image3)) l.taken l.searched l.steps l.passed l.next l.invariant (set l.searched p e.earlier) to) (here (goal.at.picks-preserved c).After-with_taken-r (in_table (goal.at.picks-preserved c).Else-commands-place)) (λ _. free (goal.at.picks-preserved c).After-loop-earlier (here (goal.at.picks-preserved c).After-with_taken-r (in_table (goal.at.picks-preserved c).Else-commands-place)) (clear (goal.at.picks-preserved c).At-loop-earlier (here (goal.at.picks-preserved c).After-with_taken-r (in_table (goal.at.picks-preserved c).Else-commands-place)))) few n.ensures.there n.ensures.same v.ensures))
 
 pub shape_of-memory : goal.shape_of-memory
 shape_of-memory c = c.picks.invariant.as_long memory
