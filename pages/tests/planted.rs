@@ -84,7 +84,12 @@ fn every_kind_of_miss_is_found() {
             "as `base::wal`",
             "docs/CONTRACTS.md:7: `base::wal`",
         ),
-        ("docs/CONTRACTS.md", "`walk_of m", "`walks_of m", "docs/CONTRACTS.md:6: `walks_of m start`"),
+        (
+            "docs/CONTRACTS.md",
+            "`walk_of m",
+            "`walks_of m",
+            "docs/CONTRACTS.md:6: `walks_of m start`",
+        ),
         (
             "docs/CONTRACTS.md",
             "(place at)",
