@@ -1,7 +1,7 @@
 -- `firmware::laid::fill` meets its contract: each turn makes the record of one address more; one without a list, which is made apart, is the
 -- same record.
-use mathlib.Core.Path.{◌≡◌, sym, ap, ◌∙◌}
-use Prim.Native.Nat.{ℕ, ◌+◌, ◌<◌}
+use mathlib.Core.Path.{◌≡◌, ap, ◌∙◌}
+use Prim.Native.Nat.{◌+◌, ◌<◌}
 use native.Mathlib.Omega.{arith}
 use mathlib.Core.List.{List}
 use lib.ListN.{length, set, get_or}
@@ -10,7 +10,7 @@ use borrow.Author.Tests.{ne_eqb}
 use Rattle.meaning.specs.declared.Record.{Record}
 use Rattle.meaning.specs.Drives.{drives_of}
 use Rattle.chain.specs.Records.{record_at, filled_at}
-use Rattle.chain.proofs.Over.{filled_next, length_filled}
+use Rattle.chain.proofs.Over.{filled_next}
 use Rattle.chain.proofs.Coding.{plain_is}
 use Rattle.firmware.proofs.laid.fill.Goals as goal
 use Rattle.firmware.proofs.laid.fill.Goals.{then-sgm-eq1, else-sgm-eq1}

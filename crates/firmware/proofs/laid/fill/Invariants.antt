@@ -1,7 +1,6 @@
 -- After k turns of `firmware::laid::fill` the records of the first k addresses are made in their places.
 use mathlib.Core.Path.{◌≡◌}
 use Prim.Native.Nat.{◌≤◌, ◌-◌}
-use lib.ListN.{length}
 use Rattle.meaning.specs.Drives.{drives_of}
 use Rattle.chain.specs.Records.{filled_at}
 use Rattle.firmware.proofs.laid.fill.Given as goal

@@ -1,5 +1,5 @@
 -- `firmware::laid::load_first` meets its contract: each turn lays one record more of the lent table.
-use mathlib.Core.Path.{◌≡◌, ap, ◌∙◌}
+use mathlib.Core.Path.{ap, ◌∙◌}
 use Prim.Native.Nat.{◌<◌}
 use native.Mathlib.Omega.{arith}
 use mathlib.Core.List.{List}

@@ -1,15 +1,13 @@
 -- `firmware::laid::put_steps` meets its contract: each turn lays back the steps of one record more.
-use mathlib.Core.Path.{◌≡◌, refl, sym, ap, ◌∙◌}
-use Prim.Native.Nat.{ℕ, ◌≤◌, ◌<◌}
+use mathlib.Core.Path.{ap, ◌∙◌}
+use Prim.Native.Nat.{◌<◌}
 use native.Mathlib.Omega.{arith}
 use mathlib.Core.List.{List}
-use lib.ListN.{length, take, set, get_or}
+use lib.ListN.{length, set, get_or}
 use borrow.Author.Tests.{eqb-true}
 use Rattle.meaning.specs.declared.Record.{Record}
-use Rattle.meaning.specs.State.{most_commands}
 use Rattle.meaning.specs.Command.{no_record}
 use Rattle.meaning.specs.Step.{with_taken}
-use Rattle.board.specs.Changes.{table_with}
 use Rattle.firmware.proofs.Laying.{steps_next, laid_back, laid_few, laid_some}
 use Rattle.firmware.proofs.laid.put_steps.Goals as goal
 

@@ -1,13 +1,11 @@
 -- `firmware::rosadenca_pick` meets its contract: what is seen of the table gives the whole of the pick, and its steps are put in their place.
-use mathlib.Core.Path.{◌≡◌, sym, subst, subst₂}
-use Prim.Native.Nat.{ℕ, ◌≤◌}
-use native.Mathlib.Omega.{arith}
+use mathlib.Core.Path.{sym, subst, subst₂}
+use Prim.Native.Nat.{ℕ}
 use mathlib.Core.List.{List}
-use lib.ListN.{length}
 use Rattle.meaning.specs.declared.Record.{Record}
 use Rattle.meaning.specs.Drives.{drives_of}
-use Rattle.meaning.specs.Store.{Store, lent, images}
-use Rattle.meaning.specs.State.{most_commands, state_in}
+use Rattle.meaning.specs.Store.{lent, images}
+use Rattle.meaning.specs.State.{state_in}
 use Rattle.meaning.specs.Pick.{PickGives}
 use Rattle.board.specs.Sight.{PickSees}
 use Rattle.board.proofs.Picking.{whole_pick, picked_at}

@@ -1,6 +1,5 @@
 -- `firmware::rosadenca_run_picks` meets its contract: a table that is long enough is seen by its first 32 records, and the steps are laid back.
-use mathlib.Core.Path.{◌≡◌, sym, ap, ◌∙◌, subst, subst₂}
-use native.Mathlib.Omega.{arith}
+use mathlib.Core.Path.{sym, ◌∙◌, subst, subst₂}
 use mathlib.Core.List.{List, append-nil}
 use lib.ListN.{length, take}
 use Rattle.meaning.specs.declared.Record.{Record}

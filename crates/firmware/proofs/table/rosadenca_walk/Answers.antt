@@ -1,5 +1,5 @@
 -- `firmware::rosadenca_walk` meets its contract: what the walk finds, and the records that are made of it, are the whole of the walk.
-use mathlib.Core.Path.{◌≡◌, refl, sym, subst}
+use mathlib.Core.Path.{refl, sym, subst}
 use mathlib.Core.List.{List}
 use Rattle.meaning.specs.declared.Record.{Record}
 use Rattle.meaning.specs.Drives.{drives_of}
