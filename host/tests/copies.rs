@@ -110,6 +110,38 @@ fn sectors_are_no_tables() {
     assert_eq!(picked(&format!("{laid}  ret i8 0\n"), ""), Some(1));
 }
 
+/// A function that is handed places goes by what they are where it is called.
+#[test]
+fn what_is_handed_over_is_what_the_callers_hand_over() {
+    let moves = |name: &str, inside: &str| {
+        format!("define internal void @\"{name}\"(ptr %x, ptr %y, i64 %k) #0 {{\nstart:\n{inside}  ret void\n}}\n\n")
+    };
+    let at_once = moves("board::step::move", &copy("%x", "%y", "%k"));
+    let through = moves(
+        "board::step::through",
+        "  %on = getelementptr i8, ptr %x, i64 %k\n  \
+         call void @\"board::step::move\"(ptr %on, ptr nonnull %y, i64 %k)\n",
+    );
+    let call = |name: &str, to: &str, from: &str| {
+        let body = format!(
+            "  call void @\"board::step::{name}\"(ptr {to}, ptr {from}, i64 %a2)\n  ret i8 0\n"
+        );
+        let more = if name == "move" { at_once.clone() } else { format!("{at_once}{through}") };
+        picked(&body, &more)
+    };
+    // from lent to lent, as a sector goes
+    assert_eq!(call("move", "%a0", "%a1"), Some(0));
+    assert_eq!(call("through", "%a0", "%a1"), Some(0));
+    // a local of a table's size, but not a smaller one
+    assert_eq!(call("move", "%t", "%a1"), Some(1));
+    assert_eq!(call("through", "%a0", "%t"), Some(1));
+    assert_eq!(call("through", "%small", "%a1"), Some(0));
+    // by one of two callers is enough
+    let both = "  call void @\"board::step::move\"(ptr %a0, ptr %a1, i64 %a2)\n  \
+                call void @\"board::step::move\"(ptr %t, ptr %a1, i64 %a2)\n  ret i8 0\n";
+    assert_eq!(picked(both, &at_once), Some(2));
+}
+
 #[test]
 fn what_cannot_be_followed_is_an_error() {
     let module = |body: &str| {

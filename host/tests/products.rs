@@ -1,6 +1,7 @@
 //! The search for wide products, held to small modules in which each kind of product stands alone.
 
 use host::declared::Record;
+use host::products::written::other_than_by_sign;
 use host::products::{handed_over, optimised, table};
 
 /// A module with one function of this body; its parameters have no fixed types.
@@ -144,16 +145,39 @@ fn an_index_for_anything_else_is_wide() {
 }
 
 #[test]
-fn what_is_handed_over_must_be_marked() {
-    let cut = |body: &str| {
-        let seen = handed_over(&module(body)).expect("the module is understood");
-        (seen.products, seen.cut.len())
-    };
-    assert_eq!(cut("  %r = mul nuw i64 %a, %b\n  %s = mul nsw i32 %a, %b\n"), (2, 0));
-    assert_eq!(cut("  %r = mul i64 %a, %b\n  %s = mul nuw i64 %a, %b\n"), (2, 1));
-    assert_eq!(cut("  %r = mul i8 %a, 2\n"), (1, 1));
+fn every_product_that_is_handed_over_counts() {
+    let all = |body: &str| handed_over(&module(body)).expect("the module is understood");
+    assert_eq!(all("  %r = mul nuw i64 %a, %b\n  %s = mul i32 %a, %b\n"), 2);
     let told = "call { i32, i1 } @llvm.umul.with.overflow.i32(i32 %a, i32 %b)";
-    assert_eq!(cut(&format!("  %r = {told}\n")), (1, 1));
+    assert_eq!(all(&format!("  %r = {told}\n")), 1);
+    assert_eq!(all("  %r = add i64 %a, %b\n"), 0);
+}
+
+/// Only a product that is written `*` is proved to fit its type.
+#[test]
+fn a_product_is_written_by_its_sign() {
+    let words = |text: &str| {
+        let found = other_than_by_sign(text).into_iter();
+        found.map(|one| (one.line, one.word)).collect::<Vec<_>>()
+    };
+    let right = "// the product of both\nfn both(a: u32, b: u32) -> u32\n    \
+                 ensures { result ≡ a * b }\n{\n    let mut c = a * b; // no wrapping_mul\n    c *= 1;\n    c\n}\n";
+    assert_eq!(words(right), []);
+    for other in [
+        "wrapping_mul",
+        "overflowing_mul",
+        "saturating_mul",
+        "unchecked_mul",
+        "widening_mul",
+        "mul",
+        "wrapping_pow",
+        "product",
+    ] {
+        let text = right.replace("a * b;", &format!("a.{other}(b);"));
+        assert_eq!(words(&text), [(5, other.to_string())]);
+    }
+    let wrapping = right.replace("a * b;", "(Wrapping(a) * Wrapping(b)).0;");
+    assert_eq!(words(&wrapping).len(), 2);
 }
 
 #[test]
@@ -208,7 +232,7 @@ fn the_table_tells_all_kinds() {
     let alone = table(&first, None);
     assert!(alone.contains("| optimised: of at most 32 bits | 1 |\n"), "{alone}");
     assert!(alone.contains("(none may be) | 1 |\n") && !alone.contains("handed over"), "{alone}");
-    let both = table(&first, Some(&second));
+    let both = table(&first, Some(second));
     assert!(both.starts_with(&alone) && both.contains("| handed over: all | 3 |\n"), "{both}");
     let found = &first.wide[0];
     assert_eq!((found.function.as_str(), found.bits), ("a::mul", 64));

@@ -1,6 +1,6 @@
 //! What one instruction copies: all of a table, or a piece of something.
 
-use crate::copies::places::{places, Place};
+use crate::copies::places::{Module, Place};
 use crate::copies::Sizes;
 use crate::llvm::blocks::Function;
 use crate::llvm::calls::{self, Call};
@@ -47,32 +47,43 @@ impl Piece {
 }
 
 /// What an instruction copies, fills or calls; the error is a call that cannot be followed.
-pub fn found(function: &Function, line: &str, sizes: Sizes) -> Result<Option<Found>, String> {
+pub fn found(
+    module: &Module,
+    function: &Function,
+    line: &str,
+    sizes: Sizes,
+) -> Result<Option<Found>, String> {
     let (_, right) = text::defined(line);
     if right.starts_with("store ") {
-        return Ok(stored(function, right).map(Found::Piece));
+        return Ok(stored(module, function, right).map(Found::Piece));
     }
     let Some(Call { name, operands }) = calls::call(right) else { return Ok(None) };
     let name =
         name.ok_or_else(|| format!("{}: a call that is not followed: {right}", function.name))?;
-    Ok(called(function, name, &operands, sizes))
+    Ok(called(module, function, name, &operands, sizes))
 }
 
 /// A store of what was loaded: a piece goes from one place to another.
-fn stored(function: &Function, right: &str) -> Option<Piece> {
+fn stored(module: &Module, function: &Function, right: &str) -> Option<Piece> {
     let operands = text::parts(right.strip_prefix("store ")?);
     let (kind, value) = text::operand(operands.first()?)?;
     let (_, to) = text::operand(operands.get(1)?)?;
     let loaded = function.defined.get(text::name(value)?)?.strip_prefix("load ")?;
     let (_, from) = text::operand(text::parts(loaded).get(1)?)?;
-    let (from, to) = (places(function, from), places(function, to));
+    let (from, to) = (module.places(function, from), module.places(function, to));
     Some(Piece { bytes: text::bytes(kind)?, from, to })
 }
 
-fn called(function: &Function, name: &str, operands: &[&str], sizes: Sizes) -> Option<Found> {
+fn called(
+    module: &Module,
+    function: &Function,
+    name: &str,
+    operands: &[&str],
+    sizes: Sizes,
+) -> Option<Found> {
     let copies = ["llvm.memcpy.", "llvm.memmove."].iter().any(|start| name.starts_with(start));
     if copies || name == "memcpy" || name == "memmove" {
-        return copied(function, operands, sizes);
+        return copied(module, function, operands, sizes);
     }
     if name.starts_with("llvm.memset.") || name == "memset" {
         let whole = operands.get(2).and_then(|length| constant(length));
@@ -88,10 +99,10 @@ fn constant(operand: &str) -> Option<u64> {
     text::operand(operand)?.1.parse().ok()
 }
 
-fn copied(function: &Function, operands: &[&str], sizes: Sizes) -> Option<Found> {
+fn copied(module: &Module, function: &Function, operands: &[&str], sizes: Sizes) -> Option<Found> {
     let side = |at: usize| {
         let (_, pointer) = operands.get(at).and_then(|operand| text::operand(operand))?;
-        Some(places(function, pointer))
+        Some(module.places(function, pointer))
     };
     let (to, from) = (side(0)?, side(1)?);
     let bytes = operands.get(2).and_then(|length| constant(length));

@@ -2,6 +2,7 @@
 //! in it is a set of blocks that all lead to each other.
 
 use crate::copies::found::{found, Found, Piece};
+use crate::copies::places::Module;
 use crate::copies::Sizes;
 use crate::llvm::blocks::Function;
 use std::collections::{BTreeSet, HashMap};
@@ -67,7 +68,7 @@ impl Way {
 }
 
 pub struct Ways<'a> {
-    functions: &'a HashMap<String, Function>,
+    module: Module<'a>,
     sizes: Sizes,
     known: HashMap<String, Way>,
     open: Vec<String>,
@@ -81,7 +82,8 @@ struct Work {
 
 impl<'a> Ways<'a> {
     pub fn new(functions: &'a HashMap<String, Function>, sizes: Sizes) -> Ways<'a> {
-        Ways { functions, sizes, known: HashMap::new(), open: Vec::new() }
+        let module = Module::new(functions);
+        Ways { module, sizes, known: HashMap::new(), open: Vec::new() }
     }
 
     /// The most on any way through a function, with all that it calls.
@@ -92,7 +94,7 @@ impl<'a> Ways<'a> {
         if matches!(name, "memcpy" | "memmove" | "memset") {
             return Ok(Way::default());
         }
-        let functions = self.functions;
+        let functions = self.module.functions;
         let function = functions.get(name).ok_or(format!("{name} is called, and not there"))?;
         if self.open.iter().any(|open| open == name) {
             return Err(format!("{name} calls itself"));
@@ -112,7 +114,7 @@ impl<'a> Ways<'a> {
     fn work(&mut self, function: &Function, lines: &[String]) -> Result<Work, String> {
         let mut work = Work { way: Way::default(), pieces: Vec::new() };
         for line in lines {
-            match found(function, line, self.sizes)? {
+            match found(&self.module, function, line, self.sizes)? {
                 None => {}
                 Some(Found::Copy(words)) => work.way.copies.words.push(words),
                 Some(Found::Fill) => work.way.fills.words.push("a fill".to_string()),

@@ -1,10 +1,11 @@
 //! Products that a small processor cannot take, which multiplies 32 bits by 32 into 32: looks for
-//! them in the firmware's LLVM module, as the compiler has optimised it and as it was handed over.
-//! What is seen and what is not is told in docs/DECISIONS.md.
+//! them in the firmware's LLVM module, as the compiler has optimised it, and for products whose
+//! result could be cut in its source. What is seen and what is not is told in docs/DECISIONS.md.
 
 pub mod product;
 pub mod unseen;
 pub mod uses;
+pub mod written;
 
 use crate::declared::Record;
 use crate::llvm::blocks::{self, Function};
@@ -35,14 +36,6 @@ pub struct Optimised {
     pub wide: Vec<Found>,
 }
 
-/// What was seen in the module as it was handed over: how many products there are, and those of
-/// which it is not said that the result fits.
-#[derive(Default)]
-pub struct HandedOver {
-    pub products: usize,
-    pub cut: Vec<Found>,
-}
-
 /// Looks at every product of the optimised module.
 pub fn optimised(module: &str) -> Result<Optimised, String> {
     let mut seen = Optimised::default();
@@ -69,17 +62,13 @@ fn is_index(function: &Function, product: &Product) -> bool {
     by_size && uses::only_for_addresses(function, product.result)
 }
 
-/// Looks at every product of the module as it was handed over. Where a result is proved to fit, the
-/// toolchain marks the product; without the mark it could be cut to the width of its type.
-pub fn handed_over(module: &str) -> Result<HandedOver, String> {
-    let mut seen = HandedOver::default();
-    each_product(module, |_, product, found| {
-        seen.products += 1;
-        if !product.fits {
-            seen.cut.push(found);
-        }
-    })?;
-    Ok(seen)
+/// How many products there are in the module as it was handed over; the error is one that is not
+/// understood. The toolchain marks none as one whose result fits, so that is asked of the source
+/// (`written`).
+pub fn handed_over(module: &str) -> Result<usize, String> {
+    let mut products = 0;
+    each_product(module, |_, _, _| products += 1)?;
+    Ok(products)
 }
 
 /// Calls `with` for every product of a module; the last argument is what is told if it may not be.
@@ -112,20 +101,11 @@ impl Optimised {
     }
 }
 
-impl HandedOver {
-    fn rows(&self) -> [(&'static str, usize); 2] {
-        [
-            ("handed over: all", self.products),
-            ("handed over: not marked as fitting (none may be)", self.cut.len()),
-        ]
-    }
-}
-
 /// The table of what was seen, for the terminal.
-pub fn table(optimised: &Optimised, handed_over: Option<&HandedOver>) -> String {
+pub fn table(optimised: &Optimised, handed_over: Option<usize>) -> String {
     let mut text = String::from("| products in the module | number |\n|---|---|\n");
-    let second = handed_over.map(HandedOver::rows);
-    for (what, number) in optimised.rows().into_iter().chain(second.into_iter().flatten()) {
+    let second = handed_over.map(|products| ("handed over: all", products));
+    for (what, number) in optimised.rows().into_iter().chain(second) {
         text += &format!("| {what} | {number} |\n");
     }
     text

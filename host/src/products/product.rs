@@ -1,5 +1,4 @@
-//! One product, as an instruction of LLVM's text has it: how wide it is, what is multiplied, and
-//! whether the instruction says that the result fits.
+//! One product, as an instruction of LLVM's text has it: how wide it is, and what is multiplied.
 
 use crate::llvm::{calls, text};
 
@@ -9,8 +8,6 @@ pub struct Product<'a> {
     /// How wide the processor has to multiply.
     pub bits: u32,
     pub factors: [Factor; 2],
-    /// It is marked `nuw` or `nsw`: the result fits.
-    pub fits: bool,
 }
 
 pub enum Factor {
@@ -46,13 +43,13 @@ pub fn read(line: &str) -> Result<Option<Product<'_>>, String> {
         (Some((name, operands)), 0) => intrinsic(name, &operands),
         _ => None,
     };
-    let (result, (bits, factors, fits)) =
+    let (result, (bits, factors)) =
         result.zip(made).ok_or_else(|| format!("a product that is not understood: {line}"))?;
-    Ok(Some(Product { result, bits, factors, fits }))
+    Ok(Some(Product { result, bits, factors }))
 }
 
-/// All of a product but its name: bits, factors and whether it is marked.
-type Made = (u32, [Factor; 2], bool);
+/// All of a product but its name: bits and factors.
+type Made = (u32, [Factor; 2]);
 
 /// How many words of a line, other than names and what is in quotes or a comment, have `mul` in
 /// them: that of an instruction, or of a constant that has to be worked out.
@@ -65,14 +62,14 @@ pub fn speaks_of_products(line: &str) -> usize {
 
 /// `mul flags.. type one, other`, and what may be noted after it.
 fn instruction(right: &str) -> Option<Made> {
-    let (mut rest, mut fits) = (right.strip_prefix("mul ")?, false);
+    let mut rest = right.strip_prefix("mul ")?;
     while let Some(after) = ["nuw ", "nsw "].iter().find_map(|flag| rest.strip_prefix(flag)) {
-        (rest, fits) = (after, true);
+        rest = after;
     }
     let operands = text::parts(rest).into_iter().filter(|part| !part.starts_with('!'));
     let [one, other] = operands.collect::<Vec<_>>()[..] else { return None };
     let (bits, one) = typed(one)?;
-    Some((bits, [factor(one)?, factor(other)?], fits))
+    Some((bits, [factor(one)?, factor(other)?]))
 }
 
 /// A product by a function of LLVM's own. To see that a result does not fit, or to shift it before
@@ -84,7 +81,7 @@ fn intrinsic(name: &str, operands: &[&str]) -> Option<Made> {
         return None;
     }
     let ((bits, one), (_, other)) = (typed(operands.first()?)?, typed(operands.get(1)?)?);
-    Some((bits.checked_mul(2)?, [factor(one)?, factor(other)?], false))
+    Some((bits.checked_mul(2)?, [factor(one)?, factor(other)?]))
 }
 
 /// An operand as the bits of its type, each lane's of a vector, and the words after it.
