@@ -16,22 +16,14 @@ part_is l a n = ap (λ (k : ℕ). take k (drop a l)) (add-sub_cancel_left a n)
 part_length : (l : List ℕ) (a n : ℕ) → a + n ≤ length l → length (take n (drop a l)) ≡ n
 part_length l a n h = length-take-le n (drop a l) (omega (arith, length-drop a l))
 
--- `bytes::copy` of one part onto another that is as long, as `sets` of the whole
+-- a copy of one part onto another that is as long, as `sets` of the whole
 module _ (n : ℕ) (src dst : List ℕ) (from to : ℕ) (in_src : from + n ≤ length src) (in_dst : to + n ≤ length dst) where
-  all_copied : (p q : List ℕ) → length p ≡ n → length q ≡ n → take (length p) p ++ drop (length p) q ≡ p
-  all_copied p q lp lq =
-      ap (λ (r : List ℕ). r ++ drop (length p) q) (take-length p)
-      ∙ ap (λ (r : List ℕ). p ++ r) (drop_of_length-le q {i = length p} (omega arith))
-      ∙ append-nil p
-
-  pub copied_is_sets : (ys : List ℕ)
-      → ys ≡ take (length (take (from + n - from) (drop from src))) (take (from + n - from) (drop from src)) ++ drop (length (take (from + n - from) (drop from src))) (take (to + n - to) (drop to dst))
+  pub copied_is_sets : (ys : List ℕ) → ys ≡ take (from + n - from) (drop from src)
       → take to dst ++ (ys ++ drop (to + n - to) (drop to dst)) ≡ sets dst to (take n (drop from src))
   copied_is_sets ys e =
       let p = take n (drop from src) in
       let lp : length p ≡ n = part_length src from n in_src in
-      let lq : length (take n (drop to dst)) ≡ n = part_length dst to n in_dst in
-      let is-p : ys ≡ p = simp (part_is src from n, part_is dst to n) at e ∙ all_copied p (take n (drop to dst)) lp lq in
+      let is-p : ys ≡ p = e ∙ part_is src from n in
       let rest : drop (to + n - to) (drop to dst) ≡ drop (to + length p) dst =
       ap (λ (k : ℕ). drop k (drop to dst)) (add-sub_cancel_left to n) ∙ drop-drop n to dst ∙ ap (λ (k : ℕ). drop (to + k) dst) (sym lp)
       in

@@ -31,7 +31,7 @@ fn copy_part(src: &[u8], from: usize, dst: &mut [u8], to: usize, size: usize)
 {
     let from_end = from + size;
     let to_end = to + size;
-    bytes::copy(&src[from..from_end], &mut dst[to..to_end]);
+    dst[to..to_end].copy_from_slice(&src[from..from_end]);
 }
 
 // So many sectors of src, from the byte `from` on, go to dst from the byte `to` on: one after another, since a copy of a length that the

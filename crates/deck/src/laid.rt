@@ -103,7 +103,7 @@ fn lay_record(bytes: &[u8], memory: &mut [u8], k: usize)
 {
     let from = RECORD_BYTES * k;
     let end = from + iopb::IOPB_BYTES;
-    bytes::copy(&bytes[from..end], &mut memory[from..end]);
+    memory[from..end].copy_from_slice(&bytes[from..end]);
 }
 
 // Every byte becomes v.

@@ -24,7 +24,7 @@ fn put_word(out: &mut [u8], at: usize, word: &[u8]) -> usize
     ensures { Put out.old at word.now result out.new }
 {
     let end = at + word.len();
-    bytes::copy(word, &mut out[at..end]);
+    out[at..end].copy_from_slice(word);
     end
 }
 

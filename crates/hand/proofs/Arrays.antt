@@ -5,13 +5,13 @@ use Prim.Native.Nat.{ℕ}
 use mathlib.Core.List.{List, [], ◌∷◌}
 use lib.ListN.{length}
 use seplogic.Ra.Ura.{Ura}
-use seplogic.Ra.TreeShare.{full_share}
+use base.Fraction.{full_share}
 use mir.Syntax.{Ty, ty_array}
 use mir.Val.{Val}
 use base.Logic.{ent, sep}
 use base.Fml.{fsep, fat}
 use types.Logic.{Logic, sem}
-use types.Kit.{‵, ◌$◌, ◌∵◌, !, qed, move, drop as discard, use1, rewrite, fsplit, fjoin, fpick, fpack, feq_i, check, done}
+use types.Kit.{‵, ◌$◌, ◌∵◌, !, qed, move, drop as discard, use1, rewrite, fsplit, fjoin, fpick, fpack, feq_i, done}
 use types.Share.{arr_parts}
 use denote.RattleType.{RattleType}
 use denote.Laws.{Is, Tells, Makes, Lawful, shows}

@@ -3,9 +3,9 @@
 use Prim.Native.Nat.{ℕ, zero, suc}
 use mathlib.Core.List.{List, [], ◌∷◌}
 use seplogic.Ra.Ura.{Ura}
-use mir.Syntax.{Name, Place, Opd as Operand, Body, seq, call}
+use mir.Syntax.{Callee, Place, Opd as Operand, Body, seq, call}
 use mir.Val.{Val}
-use base.Logic.{SProp, ent, sep, emp, id⊢, via, ex_e, snd∗, mono_r}
+use base.Logic.{ent, emp, id⊢, mono_r}
 use base.Fml.{ftrue, flft}
 use prog.Wp.{Env, Calls, Loops}
 use types.Logic.{Logic}
@@ -18,11 +18,11 @@ use denote.RattleType.{RattleType}
 use denote.Laws.{Is, shows}
 use denote.Signature.{type_at}
 use denote.Steps.{peeks, heard}
-use denote.Triple.Entry.{Args, Res, alive}
+use denote.Triple.Entry.{Res, alive}
 use denote.Triple.Statement.{Contract, Triple}
 use denote.Triple.Call.{calls_at}
 use denote.Triple.Spec.{triple_of}
-use denote.Triple.Clauses.{Ended, Clauses, Lasts, at_exit, ensured, closing, lasts}
+use denote.Triple.Clauses.{Ended, Clauses, Lasts, at_exit, closing, lasts}
 
 -- the tokens of n lifetimes, as an entry of a context
 abbrev pub tokens : {M : Type 1} {𝓤 : Ura M} (n : ℕ) → Lfts n → Shares n → Item 𝓤
@@ -40,7 +40,7 @@ module _ {M : Type 1} {𝓤 : Ura M} (𝓛 : Logic 𝓤) where
   abbrev pub Meant : (T : Ended) → Clauses 𝓤 T → Contract 𝓤
   Meant T c = triple_of 𝓛 T.signature (closing 𝓛 T c)
 
-module _ {M : Type 1} {𝓤 : Ura M} {𝓛 : Logic 𝓤} {K : Type 0} {Γ : List (Item 𝓤)} {C : Calls 𝓤 𝓛.H} {Λ : Loops 𝓤 𝓛.H} {E : Env 𝓤 𝓛.H} {g : Name} {xs : List Operand} {d : Place} {rest : Body} {Q : Post 𝓤 𝓛.H} where
+module _ {M : Type 1} {𝓤 : Ura M} {𝓛 : Logic 𝓤} {K : Type 0} {Γ : List (Item 𝓤)} {C : Calls 𝓤 𝓛.H} {Λ : Loops 𝓤 𝓛.H} {E : Env 𝓤 𝓛.H} {g : Callee} {xs : List Operand} {d : Place} {rest : Body} {Q : Post 𝓤 𝓛.H} where
   -- Φ is what is ensured, as a fact of the answer r and the last values ws; `λ r ws. id⊢ 𝓤 _` shows it.
   open 𝓛 use {H}
 

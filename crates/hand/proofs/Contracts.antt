@@ -1,10 +1,8 @@
 -- From a walk by hand to the contract of the function whose code it walks. Of each parameter it takes how its machine values are spelled
 -- and told, and what is had of it at the exit; the walk itself goes from what is owned at the entry to what is left at the exit.
-use mathlib.Core.List.{List}
 use seplogic.Ra.Ura.{Ura}
-use mir.Syntax.{Name, Fn}
-use mir.Val.{Val}
-use base.Logic.{SProp, ent, sep}
+use mir.Syntax.{Callee, Fn}
+use base.Logic.{ent, sep}
 use prog.Routine.{Env}
 use prog.Wp.{WpFn, Closed, Tables}
 use prog.Model.{Model}
@@ -25,7 +23,7 @@ use Rattle.hand.proofs.Calls.{Meant}
 pub by_hand : {M : Type 1} {𝓤 : Ura M} (𝓛 : Logic 𝓤) (𝓜 : Model 𝓤 𝓛.H) (𝓡 : Running 𝓤 𝓛.H 𝓜) (T : Ended) (c : Clauses 𝓤 T)
     (hs : Stays T.signature.params T.kept) → AllGo 𝓛 T.signature.lifetimes T.signature.params T.kept hs
     → (sp : (κs : Lfts T.signature.lifetimes) → Spells (types_at T.signature.params κs)) → ((κs : Lfts T.signature.lifetimes) → Tellss (types_at T.signature.params κs) (Ises (types_at T.signature.params κs)) (sp κs))
-    → (γ : Env) (k : Name) (f : Fn) → Closed 𝓤 𝓛.H (tables 𝓤 𝓛.H 𝓜 𝓡 γ).C (tables 𝓤 𝓛.H 𝓜 𝓡 γ).Λ k f
+    → (γ : Env) (k : Callee) (f : Fn) → Closed 𝓤 𝓛.H (tables 𝓤 𝓛.H 𝓜 𝓡 γ).C (tables 𝓤 𝓛.H 𝓜 𝓡 γ).Λ k f
     → (let 𝓣 = tables_of 𝓤 𝓛.H 𝓜 (tables 𝓤 𝓛.H 𝓜 𝓡 γ) in
     (κs : Lfts T.signature.lifetimes) (qs : Shares T.signature.lifetimes) (bounds : AllOutlive T.signature.lifetimes T.signature.outlives κs) (a : Args T.signature κs) (g : (c κs a).ghost)
     → let vss = valss (types_at T.signature.params κs) (sp κs) a in

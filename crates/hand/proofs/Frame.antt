@@ -5,14 +5,14 @@ use mathlib.Core.Path.{◌≡◌, subst}
 use Prim.Native.Nat.{ℕ, zero, suc, ◌+◌, ◌*◌, ◌-◌}
 use mathlib.Core.List.{List, [], ◌∷◌, ◌++◌}
 use seplogic.Ra.Ura.{Ura}
-use seplogic.Ra.TreeShare.{full_share}
+use base.Fraction.{full_share}
 use mir.Syntax.{Ty, Local, local, Fn}
 use mir.Val.{Val}
 use base.Logic.{SProp, ent, sep, id⊢, via, emp∗, assoc', mono_l, mono_r, snd∗}
-use base.Fml.{Share, Fml, ftrue, ffalse, feq, flt, fsep, fand, for, fwand, fex, fall, fupd, fat, froom, fdies, flft, fdead, fobs, fauth, fres, fbor, fobor, flent, fshr_bor}
+use base.Fml.{Share, Fml, ftrue, ffalse, feq, flt, fsep, fand, for, fwand, fex, fall, fupd, fhide, fat, froom, fleft, fdies, flft, fdead, fobs, fauth, fres, fown, fbor, fobor, flent, fshr_bor, finv, fnamed, ftok, fkid, fme, fsent}
 use prog.Wp.{Env, Calls, Loops, WpFn, release}
 use types.Logic.{Logic}
-use types.Kit.{Item, ‵, raw, ◌⊛◌, some, given, later, ⋆, nth, del, put, mean, push, pop, pull, fill, ++⊢, Goal, prop, runs, at_ret, allocs, params', frees, aim, Seq, Step, step, ◌$◌, ◌∵◌, !, qed, by, move, use1, split, join, frame, rewrite, done}
+use types.Kit.{Item, ‵, raw, ◌⊛◌, some, given, later, ⋆, nth, del, put, mean, push, pop, pull, fill, ++⊢, Goal, prop, runs, at_ret, allocs, params', frees, Seq, Step, step, ◌$◌, ◌∵◌, !, qed, by, move, use1, split, join, frame, rewrite, done}
 use types.Run.{enter, alloc1, alloc0}
 
 -- ---- a frame, as a context has it
@@ -53,16 +53,25 @@ held (fwand P Q) = room
 held (fex X F) = room
 held (fall X F) = room
 held (fupd P) = room
+held (fhide P) = room
+held (fleft q τ τs b o) = room
 held (fdies τ b) = room
 held (flft κ q) = room
 held (fdead κ) = room
 held (fobs γ x) = room
 held (fauth γ x) = room
 held (fres γ x) = room
+held (fown R γ x) = room
 held (fbor κ P) = room
 held (fobor κ q P) = room
 held (flent κ P) = room
 held (fshr_bor κ P) = room
+held (finv P) = room
+held (fnamed n P) = room
+held (ftok m) = room
+held (fkid h a) = room
+held (fme n) = room
+held (fsent t) = room
 
 module _ {M : Type 1} {𝓤 : Ura M} where
   abbrev held_in : Item 𝓤 → Cell

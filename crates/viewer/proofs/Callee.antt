@@ -6,7 +6,7 @@ use Prim.Native.Nat.{ℕ, ◌<◌, ◌^◌}
 use mathlib.Core.List.{List, [], ◌∷◌}
 use lib.ListN.{length}
 use seplogic.Ra.Ura.{Ura}
-use mir.Syntax.{Width, Name, Place, Opd as Operand, Body, seq, call, named, w32}
+use mir.Syntax.{Width, Callee, Place, Opd as Operand, Body, seq, call, named, w8, w32}
 use mir.Val.{Val, vint}
 use base.Logic.{ent, sep, emp, id⊢}
 use base.Fml.{Lft, Share, Fml}
@@ -18,7 +18,7 @@ use types.Kit.{Item, Post, runs, lands, Seq, ‵, raw, ◌⊛◌, ⋆, ◌$◌, 
 use types.Run.{Opds}
 use sound.WpLaws.{FmC}
 use denote.Laws.{Is}
-use denote.Plain.{UInt, uint_Makes}
+use denote.Plain.{UInt, uint_Makes, uint_row_laws}
 use denote.Builtin.{u8, u32, SliceRefOf}
 use denote.Ref.{Bor}
 use denote.Signature.{Signature, Slot, plain, type_at}
@@ -84,12 +84,12 @@ module _ {M : Type 1} {𝓤 : Ura M} (𝓛 : Logic 𝓤) (ρ : Slot 1) (P : Clai
     -- What the slice owns and the token are what is asked. A `&[u8]` is Copy: its ownership is duplicated before the call, and one stays.
     asked : n < 2 ^ 32 → ent 𝓤 (⋆ 𝓛 (‵ (Own κ s) ∷ token 𝓤 κ q ∷ [])) (sep 𝓤 (Meant.pre to) (sem 𝓛 (Own κ s)))
     asked fits =
-        qed 𝓛 (‵ (Own κ s) ∷ token 𝓤 κ q ∷ []) ∵ use1 𝓛 (‵ (Own κ s) ⊛ ‵ (Own κ s)) ((shr_slice_copy 𝓛 (named 0) κ u8).twice s (slice_of s ∷ [])) $ split ! $
+        qed 𝓛 (‵ (Own κ s) ∷ token 𝓤 κ q ∷ []) ∵ use1 𝓛 (‵ (Own κ s) ⊛ ‵ (Own κ s)) ((shr_slice_copy 𝓛 (named 0) κ u8 (uint_row_laws w8)).twice s (slice_of s ∷ [])) $ split ! $
         nothing ! $ owned ! u32 (Is u32) (uint_Makes 𝓛 w32) n _ (refl, fits) $ fjoin ! $ move ! (1 ∷ 0 ∷ []) $ fjoin ! $
         nothing ! $ move ! (3 ∷ 1 ∷ []) $ join ! $ join ! $ frame ! $ done !
 
     -- a call: after it there is the answer, with its claim and its type's facts; the token comes back
-    module _ {K : Type 0} {Γ : List (Item 𝓤)} {C : Calls 𝓤 H} {Λ : Loops 𝓤 H} {E : Env 𝓤 H} {g : Name} {xs : List Operand} {d : Place} {rest : Body} {Q : Post 𝓤 H} where
+    module _ {K : Type 0} {Γ : List (Item 𝓤)} {C : Calls 𝓤 H} {Λ : Loops 𝓤 H} {E : Env 𝓤 H} {g : Callee} {xs : List Operand} {d : Place} {rest : Body} {Q : Post 𝓤 H} where
       pub calls : K → FmC 𝓤 H 𝓛.laws C → Triple 𝓤 (C g) Meant → n < 2 ^ 32
           → Opds K 𝓛 (raw (Meant.pre to) ∷ ‵ (Own κ s) ∷ Γ) E xs (Meant.args to)
           → ((u : Val) (r : (type_at ρ (κ, tt)).Denot) → P (κ, tt) s n r → Is (type_at ρ (κ, tt)) r (u ∷ []) → Seq K 𝓛 (‵ ((type_at ρ (κ, tt)).own_val r (u ∷ [])) ∷ token 𝓤 κ q ∷ ‵ (Own κ s) ∷ Γ) (lands C Λ E d u rest Q))

@@ -1,4 +1,4 @@
--- What the walks of the functions over the viewer share, and the theorems about the definitions.
+-- What a walk by hand of a function over the viewer takes, and the theorems about the definitions.
 pub mod Callee
 pub mod Reading
 pub mod Zero

@@ -1,12 +1,13 @@
 -- A function that takes a viewer apart and calls a covered function on its memory and address gives what that function gives.
--- Each field's code is `code` at its width and callee, so one walk, by hand, serves all. A viewer is Copy: its ownership is duplicated,
--- one copy is kept whole for the exit, and of the other what the memory owns goes to the callee.
+-- Such code is `code` at its width and callee, so one walk, by hand, serves all. A viewer is Copy: its ownership is duplicated,
+-- one copy is kept whole for the exit, and of the other what the memory owns goes to the callee. The checker proves the fields' functions
+-- itself: this is the same of any function with that code.
 use mathlib.Core.Path.{◌≡◌, refl}
 use Prim.Native.Nat.{ℕ}
 use mathlib.Core.List.{List, [], ◌∷◌}
 use lib.Dec.{T as Holds}
 use seplogic.Ra.Ura.{Ura}
-use mir.Syntax.{Width, Name, Fn, local, value_local, ty_int, ty_ref, erased, imm, named, w8, w32, seq, assign, call, return, place, field, rv_opd, copy}
+use mir.Syntax.{Width, Callee, Fn, local, value_local, ty_int, ty_ref, erased, imm, named, w8, w32, seq, assign, call, return, place, field, rv_opd, copy}
 use mir.Val.{Val, WT, has_ty}
 use base.Logic.{SProp, ent, emp, via, fst∗}
 use base.Fml.{Lft, Share, Fml}
@@ -59,10 +60,12 @@ abbrev stayed : (w : Width) → Stays (ended w).signature.params (ended w).kept
 stayed w = (stay_none B yes, tt)
 
 -- the code: the viewer's memory and address are copied, and the function g is called on them
-abbrev code : Width → Name → Fn
+abbrev code : Width → Callee → Fn
 code w g = record {
   lifetimes = 1;
   outlives = [];
+  ty_params = [];
+  givens = 0;
   params = 1;
   locals = local (ty_int w) value_local
       ∷ local (T'.mir (named 0)) value_local
@@ -126,7 +129,7 @@ module _ {M : Type 1} {𝓤 : Ura M} (𝓛 : Logic 𝓤) (w : Width) (f : List �
       suffices ! _ (ends_at 𝓛 (ended w) (stayed w) (clauses 𝓛 w f) (((κ, tt), (q, tt), tt, (d, tt), (mach ∷ [], tt)), tt) u r (tt, tt) (tt, tt)) $ says ! e $
       move ! (1 ∷ []) $ frame ! $ nothing ! $ move ! (2 ∷ 0 ∷ []) $ fjoin ! $ frame ! $ done !
 
-  module _ (C : Calls 𝓤 H) (Λ : Loops 𝓤 H) (fm : FmC 𝓤 H 𝓛.laws C) (g : Name) (known : Triple 𝓤 (C g) Called) where
+  module _ (C : Calls 𝓤 H) (Λ : Loops 𝓤 H) (fm : FmC 𝓤 H 𝓛.laws C) (g : Callee) (known : Triple 𝓤 (C g) Called) where
     walk : Holds (has_ty (T'.mir (named 0)) mach) × WT mach → ent 𝓤 Entry (WpFn 𝓤 H C Λ (code w g) (mach ∷ []) Post)
     walk wt =
         qed 𝓛 (raw Entry ∷ []) ∵ enters_all ! C Λ (code w g) (mach ∷ []) Post (raw Entry ∷ []) (λ b. params1 ! $ pass1 ! (init ! (pos 0 1) refl wt) $ pass0 ! $
@@ -138,7 +141,7 @@ module _ {M : Type 1} {𝓤 : Ura M} (𝓛 : Logic 𝓤) (w : Width) (f : List �
         land ! (from ! (stop !)) (init ! (pos 3 0) refl ((uint_Lawful 𝓛 w).typed r _ is).0) $ returns ! (look ! (pos 3 0) refl) $ frees_all ! 3 refl $ by ! (exits r u e)))
 
 -- the same of the function's own routine, k in its environment γ, where the callee's routine meets its contract
-pub shows_field : {M : Type 1} {𝓤 : Ura M} (𝓛 : Logic 𝓤) (𝓜 : Model 𝓤 𝓛.H) (𝓡 : Running 𝓤 𝓛.H 𝓜) (w : Width) (f : List ℕ → ℕ → ℕ) (γ : Env) (k g : Name) (callee-routine : Routine)
+pub shows_field : {M : Type 1} {𝓤 : Ura M} (𝓛 : Logic 𝓤) (𝓜 : Model 𝓤 𝓛.H) (𝓡 : Running 𝓤 𝓛.H 𝓜) (w : Width) (f : List ℕ → ℕ → ℕ) (γ : Env) (k g : Callee) (callee-routine : Routine)
     → Closed 𝓤 𝓛.H (tables 𝓤 𝓛.H 𝓜 𝓡 γ).C (tables 𝓤 𝓛.H 𝓜 𝓡 γ).Λ k (code w g)
     → γ g ≡ callee-routine
     → Triple 𝓤 (𝓡.run callee-routine) (callee.Meant 𝓛 (number w) (gives w f))

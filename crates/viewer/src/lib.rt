@@ -212,7 +212,7 @@ pub fn data_address<'a>(v: Viewer<'a>) -> u32
 
 // The next IOPB's address.
 pub fn next_address<'a>(v: Viewer<'a>) -> u32
-    ensures { result ≡ iopb.next-address v.entry.memory.now v.entry.at }
+    ensures { result ≡ iopb.next_address v.entry.memory.now v.entry.at }
 {
     iopb::next_address(v.memory, v.at)
 }

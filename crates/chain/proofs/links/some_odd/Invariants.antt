@@ -1,0 +1,15 @@
+-- `chain::links::some_odd` meets its contract: what was passed begins at even addresses, so what is left decides.
+use mathlib.Core.Path.{sym, ◌∙◌}
+use Prim.Native.Nat.{◌-◌}
+use native.Mathlib.Omega.{arith}
+use Rattle.meaning.specs.declared.Link.{Link}
+use Rattle.meaning.specs.Code as code
+use Rattle.meaning.proofs.Links.{Sought, sought_start, sought_hit, sought_miss, sought_none}
+use borrow.Author.Rules.{rules}
+use Rattle.chain.proofs.links.some_odd.Given as goal
+
+abbrev pub invariant-loop-k : goal.invariant-loop-k
+invariant-loop-k l = Sought (λ (x : Link). code.odd x.address) l.n l.list l.last l.k
+
+abbrev pub decreases-loop-k : goal.decreases-loop-k
+decreases-loop-k l = l.last - l.k

@@ -1,0 +1,28 @@
+-- `chain::walk::walk` meets its contract: what is found, and the records that are made there, are the whole of the walk.
+use mathlib.Core.Path.{◌≡◌, sym, subst}
+use native.Mathlib.Omega.{arith}
+use lib.ListN.{length}
+use borrow.Author.Rules.{rules}
+use Rattle.meaning.specs.Store.{images}
+use Rattle.meaning.specs.Drives.{drives_of}
+use Rattle.meaning.specs.State.{state_of}
+use Rattle.meaning.specs.Walk.{WalkGives}
+use Rattle.chain.proofs.Found.{found_whole}
+use Rattle.chain.proofs.walk.walk.Goals as goal
+
+pub filled-table-requires : goal.filled-table-requires
+filled-table-requires c =
+    let k = c in
+    let a = k.args in
+    let good = k.well_formed.1.1.1.1.1.1 in
+    let long : length a.table ≡ 32 = search rules in
+    omega (arith, (found_whole (drives_of a.l) a.start a.memory.now (images a.image0.now a.image1.now a.image2.now a.image3.now) a.table 32 long k.find-f.result k.find-f.ensures).0.1)
+
+pub returns : goal.returns
+returns c =
+    let k = c in
+    let a = k.args in
+    let good = k.well_formed.1.1.1.1.1.1 in
+    let long : length a.table ≡ 32 = search rules in
+    subst (WalkGives (drives_of a.l) a.start (state_of a.memory.now (images a.image0.now a.image1.now a.image2.now a.image3.now) a.table) k.find-f.result.walked) (sym c.filled-table.ensures)
+    (found_whole (drives_of a.l) a.start a.memory.now (images a.image0.now a.image1.now a.image2.now a.image3.now) a.table 32 long k.find-f.result k.find-f.ensures).1

@@ -1,0 +1,16 @@
+-- `command::touch::list_meets` meets its contract: what was passed has nothing in common, so what is left decides.
+use mathlib.Core.Path.{sym, ◌∙◌}
+use Prim.Native.Nat.{◌-◌}
+use native.Mathlib.Omega.{arith}
+use Rattle.meaning.specs.declared.Link.{Link}
+use Rattle.meaning.specs.Ranges.{bytes, overlap}
+use Rattle.meaning.specs.Links.{range_of}
+use Rattle.meaning.proofs.Links.{Sought, sought_start, sought_hit, sought_miss, sought_none}
+use borrow.Author.Rules.{rules}
+use Rattle.command.proofs.touch.list_meets.Given as goal
+
+abbrev pub invariant-loop-k : goal.invariant-loop-k
+invariant-loop-k l = Sought (λ (x : Link). overlap (bytes l.a l.n) (range_of x)) l.m l.list l.last l.k
+
+abbrev pub decreases-loop-k : goal.decreases-loop-k
+decreases-loop-k l = l.last - l.k
