@@ -17,7 +17,7 @@ enum Input {
     Failed,
 }
 
-// Reads the input to its end, however its bytes arrive, or until the run is full.
+// Reads standard input to its end, however its bytes arrive, or until the run is full.
 fn read_all(input: &mut Stdin, run: &mut [u8]) -> Input
     ensures { Within result run.new }
 {
@@ -35,7 +35,7 @@ fn read_all(input: &mut Stdin, run: &mut [u8]) -> Input
     Input::Bytes(n)
 }
 
-// The lines of a deck go to the output.
+// The lines of a deck go to standard output.
 fn print(output: &mut Stdout, bytes: &[u8]) -> io::Result<()> {
     let mut text = [0u8; lines::MOST_BYTES];
     let length = lines::print_deck(bytes, &mut text);
