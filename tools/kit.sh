@@ -1,4 +1,4 @@
-# For tools/archive, tools/products.d/module.sh, tools/planted.d/unproved.sh and tools/program, which read this file: where the toolchain
+# For tools/archive, tools/products.d/module.sh and tools/planted.d/unproved.sh, which read this file: where the toolchain
 # lies, what a crate stands on, and the toolchain seen through a folder of links in which its compiler keeps what it is handed. Such a
 # folder lies outside the checkout, since 'rt ci' refuses links in it.
 kit=$(dirname "$(rt doc)") || exit 2
@@ -44,14 +44,6 @@ mirror() {
 mirror_toolchain() {
     mirror "$kit/toolchain" "$1" bin
     mirror "$kit/toolchain/bin" "$1/bin" clang
-}
-
-# mirror_kit TO: the whole kit, all but its compiler. rt finds the kit by the place of its own files, so these are copied.
-mirror_kit() {
-    mirror "$kit" "$1" bin toolchain
-    mirror "$kit/bin" "$1/bin" rt rtlib.py
-    cp "$kit/bin/rt" "$kit/bin/rtlib.py" "$1/bin/" || exit 2
-    mirror_toolchain "$1/toolchain"
 }
 
 # keep_modules TOOLCHAIN KEPT go_on|stop: the compiler of a mirrored toolchain is a script that keeps the LLVM module which it is handed in
