@@ -165,8 +165,7 @@ pub fn page(rows: &[Row], counted: &[Counted]) -> String {
          are the fastest of many batches in a round, and the median of {ROUNDS} rounds; the sides take turns on the same \
          memory and images, which are new in each round. A ratio is the median of the rounds' own ratios. In every row with \
          a goal the middle half of them lies within {:.1} %.\n\
-         - The firmware is target/native/libfirmware.a, called from Rust. On Arm it is the toolchain's own LLVM module, \
-         compiled for Arm (tools/archive).\n\
+         - The firmware is target/native/libfirmware.a, called from Rust.\n\
          - The chain has 32 transfers, reads and writes in turn, of 1, 8 or 128 sectors each. Memory has 65,536 bytes, \
          which 128 sectors fill, so from 8 sectors on commands share their data area. A run tests sizes and table, moves \
          every sector and closes every command; the copy only moves the sectors. At 128 sectors the data of every command \
