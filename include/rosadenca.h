@@ -1,6 +1,6 @@
 /*
  * Rosadenca: the board that answers in place of a disk controller, for C and C++ programs to link (target/native/libfirmware.a,
- * which tools/archive makes, on 64-bit x86 and 64-bit Arm under Linux). The exact rules are docs/RULES.md, cited here by their
+ * which tools/archive makes, on 64-bit x86 under Linux). The exact rules are docs/RULES.md, cited here by their
  * numbers, as in Walk 3; what is proved of each function stands at its source, crates/firmware. Needs C11, or C++11.
  *
  * How a host uses it: lay a chain of IOPBs in memory (rosadenca_place gives the cylinder, head and sector that an IOPB wants),

@@ -48,7 +48,8 @@ impl fmt::Display for Miss {
     }
 }
 
-/// The files of the repository, in the order of their paths.
+/// The files of the repository, in the order of their paths. What is made by cargo (target/) and by rt
+/// (the crates' out/) is left out.
 pub fn read(root: &Path) -> std::io::Result<Vec<File>> {
     let mut files = Vec::new();
     let mut folders = vec![root.to_path_buf()];
@@ -57,7 +58,7 @@ pub fn read(root: &Path) -> std::io::Result<Vec<File>> {
             let path = entry?.path();
             let name = path.file_name().unwrap_or_default().to_string_lossy().into_owned();
             if path.is_dir() {
-                if name != "target" && name != ".git" {
+                if !["target", "out", ".git"].contains(&name.as_str()) {
                     folders.push(path);
                 }
                 continue;

@@ -18,7 +18,7 @@ A contract names a definition of `crates/base/specs`.
 ## `base`
 | function | for | the reply is | wrong answers ruled out |
 |---|---|---|---|
-| `walk(m, start)` | the walk | `walkOf m start` | an odd start taken (`odd_taken`) |
+| `walk(m, start)` | the walk | `walk_of m start` | an odd start taken (`odd_taken`) |
 | `field::first` .. `field::third` `(m, at)`, three fields | a field | `Fields.first m (place at)` | as `base::walk` |
 ";
 
@@ -26,23 +26,30 @@ const PROMISES: &str = "\
 # Promises
 | rule | definition | contract | promise | must-fail | test |
 |---|---|---|---|---|---|
-| Walk 1 to 3: the walk | `Walk.walkOf`, `place` | `base::walk` | `base`'s `walk-is-right` | `base/odd_taken` | `docs/RULES.md` |
+| Walk 1 to 3: the walk | `Walk.walk_of`, `place` | `base::walk` | `base`'s `walk_is_right` | `base/odd_taken` | `docs/RULES.md` |
 ";
 
 fn files() -> Vec<File> {
-    let field = "pub fn first(m: &[u8], at: u32) -> u8\npub fn second(m: &[u8], at: u32) -> u8\n\
-                 pub(crate) fn inside()\npub extern \"C\" fn third(m: &[u8], at: u32) -> u8\n";
-    let specs = "-- The walk: Walk 1\nabbrev pub walkOf : List ℕ → ℕ → ℕ\nwalkOf m a = a\n\
+    let walk = "#![tactic(auto)]\n\n\
+                pub fn walk(m: &[u8], start: u32) -> u8\n    \
+                ensures answer { result ≡ walk_of m.now start }\n{\n    0\n}\n";
+    let field = "ghost use Rattle.base.specs.Fields.{first};\n\n\
+                 pub fn first(m: &[u8], at: u32) -> u8\n    \
+                 ensures { result ≡ first m.now at }\n{\n    0\n}\n\
+                 pub fn second(m: &[u8], at: u32) -> u8 {\n    0\n}\n\
+                 pub(crate) fn inside() {}\n\
+                 #[unsafe(no_mangle)]\npub extern \"C\" fn third(m: &[u8], at: u32) -> u8 {\n    0\n}\n";
+    let specs = "-- The walk: Walk 1\nabbrev pub walk_of : List ℕ → ℕ → ℕ\nwalk_of m a = a\n\
                  pub record Reply : Type 0 where\n  pub number : ℕ\n";
     let fields = "module _ (m : List ℕ) where\n  abbrev pub first : ℕ\n  first = 0\n\n\
-                  unfoldable pub place : ℕ → ℕ\nplace a = a\n";
+                  unfoldable pub place : ℕ → ℕ\nunfolding walk_of\nplace a = a\n";
     vec![
         File::new("README.md", "It walks chains (Walk 1 and 2)."),
-        File::new("crates/base/src/lib.rt", "pub fn walk(m: &[u8], start: u32) -> u8\n"),
+        File::new("crates/base/src/lib.rt", walk),
         File::new("crates/base/src/field.rt", field),
         File::new("crates/base/specs/Walk.antt", specs),
         File::new("crates/base/specs/Fields.antt", fields),
-        File::new("crates/base/proofs/Walk.antt", "pub walk-is-right : (a : ℕ) → a ≡ a\n"),
+        File::new("crates/base/proofs/Walk.antt", "pub walk_is_right : (a : ℕ) → a ≡ a\n"),
         File::new("crates/base/must-fail/odd_taken.edit", "file: src/lib.rt\n"),
         File::new("docs/RULES.md", RULES),
         File::new("docs/CONTRACTS.md", CONTRACTS),
@@ -77,7 +84,12 @@ fn every_kind_of_miss_is_found() {
             "as `base::wal`",
             "docs/CONTRACTS.md:7: `base::wal`",
         ),
-        ("docs/CONTRACTS.md", "`walkOf m", "`walksOf m", "docs/CONTRACTS.md:6: `walksOf m start`"),
+        (
+            "docs/CONTRACTS.md",
+            "`walk_of m",
+            "`walks_of m",
+            "docs/CONTRACTS.md:6: `walks_of m start`",
+        ),
         (
             "docs/CONTRACTS.md",
             "(place at)",
@@ -92,9 +104,9 @@ fn every_kind_of_miss_is_found() {
         ),
         (
             "docs/PROMISES.md",
-            "`Walk.walkOf`",
-            "`Fields.walkOf`",
-            "docs/PROMISES.md:4: `Fields.walkOf`",
+            "`Walk.walk_of`",
+            "`Fields.walk_of`",
+            "docs/PROMISES.md:4: `Fields.walk_of`",
         ),
         (
             "docs/PROMISES.md",
@@ -110,9 +122,9 @@ fn every_kind_of_miss_is_found() {
         ),
         (
             "docs/PROMISES.md",
-            "walk-is-right",
-            "walk-is-wrong",
-            "docs/PROMISES.md:4: `walk-is-wrong`",
+            "walk_is_right",
+            "walk_is_wrong",
+            "docs/PROMISES.md:4: `walk_is_wrong`",
         ),
         ("docs/PROMISES.md", "base/odd_taken", "base/even_taken", "docs/PROMISES.md:4: `base/even"),
         (
@@ -131,7 +143,7 @@ fn every_kind_of_miss_is_found() {
         (
             "crates/base/src/lib.rt",
             "pub fn walk",
-            "pub fn run()\npub fn walk",
+            "pub fn run() {}\npub fn walk",
             "docs/CONTRACTS.md: the public function base::run is not named",
         ),
         (

@@ -10,10 +10,18 @@ done
 tools/archive || exit 2
 cargo build --quiet --release --offline --manifest-path host/Cargo.toml --bin "$program" || exit 2
 reader=host/target/release/$program
-clang=$(dirname "$(dirname "$(rt doc)")")/on/$(uname -m)/toolchain/bin/clang || exit 2
-target=$(uname -m)-unknown-linux-gnu
+. tools/kit.sh
 
-# optimise FROM TO: as the archive is compiled, but to text and not to an object
+# optimise FROM TO: as the archive is compiled, by the same words, but to text and not to an object
 optimise() {
-    "$clang" --target="$target" -ffunction-sections -fdata-sections -fPIC -O3 -S -emit-llvm -x ir "$1" -o "$2"
+    local words=() word after=''
+    while IFS= read -r word; do
+        case $after$word in
+            -o) after=-o ;;
+            -o*) after='' ;;
+            -c | --sysroot=* | *.bc) ;;
+            *) words+=("$word") ;;
+        esac
+    done <target/native/firmware.words
+    "$clang" "${words[@]}" -S -emit-llvm "$1" -o "$2"
 }

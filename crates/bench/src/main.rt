@@ -4,7 +4,8 @@
 ghost use Rattle.bench.specs.Within.{Within};
 
 use deck::{laid, lines};
-use libc::{STDIN_FILENO, STDOUT_FILENO};
+use std::io;
+use std::io::{Read, Stdin, Stdout, Write};
 
 // The most bytes that a deck can have, and one more, by which an input that is longer shows.
 const ROOM: usize = laid::RECORD_BYTES * laid::MOST_RECORDS + 1;
@@ -17,16 +18,15 @@ enum Input {
 }
 
 // Reads standard input to its end, however its bytes arrive, or until the run is full.
-fn read_all(run: &mut [u8]) -> Input
+fn read_all(input: &mut Stdin, run: &mut [u8]) -> Input
     ensures { Within result run.new }
 {
     let mut n = 0;
     while n < run.len() {
-        let got = libc::read(STDIN_FILENO, &mut run[n..]);
-        if got < 0 {
-            return Input::Failed;
-        }
-        let more = io::count(got, &run[n..]);
+        let more = match input.read(&mut run[n..]) {
+            Ok(count) => count,
+            Err(_) => return Input::Failed,
+        };
         if more == 0 {
             return Input::Bytes(n);
         }
@@ -36,18 +36,16 @@ fn read_all(run: &mut [u8]) -> Input
 }
 
 // The lines of a deck go to standard output.
-fn print(bytes: &[u8]) {
+fn print(output: &mut Stdout, bytes: &[u8]) -> io::Result<()> {
     let mut text = [0u8; lines::MOST_BYTES];
     let length = lines::print_deck(bytes, &mut text);
-    if !io::write_all(STDOUT_FILENO, &text[..length]) {
-        os::fail(b"standard output");
-    }
+    output.write_all(&text[..length])
 }
 
-fn main() {
+fn main(rt: HostRuntime) -> io::Result<()> {
     let mut run = [0u8; ROOM];
-    match read_all(&mut run) {
-        Input::Bytes(n) => print(&run[..n]),
-        Input::Failed => os::fail(b"standard input"),
+    match read_all(&mut rt.stdin(), &mut run) {
+        Input::Bytes(n) => print(&mut rt.stdout(), &run[..n]),
+        Input::Failed => Err(io::Error::other("standard input")),
     }
 }

@@ -15,7 +15,7 @@ use Rattle.meaning.specs.Drives.{Drives}
 use Rattle.meaning.specs.declared.Record.{Record}
 use Rattle.meaning.specs.Store.{Store, memory, disk}
 use Rattle.meaning.specs.State.{State, state_in, most_commands}
-use Rattle.meaning.specs.Command.{finished, remaining, no_record}
+use Rattle.meaning.specs.Command.{remaining, no_record}
 use Rattle.meaning.specs.Step.{step, with_taken, stepped}
 use Rattle.meaning.specs.Pick.{bad_record, place_number, pick_number, step_at}
 use Rattle.meaning.specs.Run.{Tally, one_pick, picks_from, by_picks, steps_left, all_finished, run_number}

@@ -4,9 +4,9 @@ use Prim.Native.Nat.{ℕ, ◌+◌, ◌-◌, ◌≤◌, ◌<◌}
 use native.Mathlib.Nat.{add-sub_cancel_left}
 use native.Mathlib.Numerals.{add-one}
 use native.Mathlib.Omega.{arith}
-use mathlib.Core.List.{List, [], ◌∷◌, ◌++◌, append_assoc, append-nil}
-use lib.ListN.{length, take, drop, set, length-append, length-drop, drop_of_length-le}
-use lib.Seq.{take-suc-set, drop-set-lt, drop-drop, take-length, take_at, drop_at, length-take-le}
+use mathlib.Core.List.{List, [], ◌∷◌, ◌++◌, append_assoc}
+use lib.ListN.{length, take, drop, set, length-append}
+use lib.Seq.{take-suc-set, drop-set-lt, drop-drop, take_at, drop_at, length-take-le}
 use Rattle.meaning.specs.Lines.{space, newline}
 use Rattle.deck.specs.Put.{Put}
 
@@ -52,26 +52,16 @@ module _ (l : List ℕ) (a : ℕ) (xs : List ℕ) (r₁ : ℕ) (l₁ : List ℕ)
 
 -- a word copied to a part as long
 pub put_copied : (l w ys : List ℕ) (a : ℕ) → a + length w ≤ length l
-    → ys ≡ take (length w) w ++ drop (length w) (take (a + length w - a) (drop a l))
+    → ys ≡ w
     → Put l a w (a + length w) (take a l ++ (ys ++ drop (a + length w - a) (drop a l)))
 put_copied l w ys a h e = subst (λ (x : List ℕ). Put l a w (a + length w) x) (sym whole) at_place
   where
     size : a + length w - a ≡ length w
     size = add-sub_cancel_left a (length w)
 
-    part : length (take (length w) (drop a l)) ≡ length w
-    part = length-take-le (length w) (drop a l) (omega (arith, length-drop a l))
-
-    is_word : ys ≡ w
-    is_word =
-        e
-        ∙ ap₂ (λ (x : List ℕ) (k : ℕ). x ++ drop (length w) (take k (drop a l))) (take-length w) size
-        ∙ ap (λ (x : List ℕ). w ++ x) (drop_of_length-le (take (length w) (drop a l)) {i = length w} (omega (arith, part)))
-        ∙ append-nil w
-
     whole : take a l ++ (ys ++ drop (a + length w - a) (drop a l)) ≡ take a l ++ w ++ drop (a + length w) l
     whole =
-        ap₂ (λ (x : List ℕ) (k : ℕ). take a l ++ (x ++ drop k (drop a l))) is_word size
+        ap₂ (λ (x : List ℕ) (k : ℕ). take a l ++ (x ++ drop k (drop a l))) e size
         ∙ sym (append_assoc (take a l) w (drop (length w) (drop a l)))
         ∙ ap (λ (x : List ℕ). take a l ++ w ++ x) (drop-drop (length w) a l)
 

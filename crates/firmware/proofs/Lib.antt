@@ -1,10 +1,6 @@
--- First what the walks by hand stand on: the types of a record and of a number of steps, and tables that are laid over others record by
--- record. Then what the parts of a call give together, and the walks that calls share. Last the theorems about the contracts.
-pub mod Records
+-- First tables that are laid over others record by record, then what the parts of a call give together, and last the theorems about the
+-- contracts.
 pub mod Laying
-pub mod Making
 pub mod Walks
 pub mod Claims
-pub mod Parameters
-pub mod Running
 pub mod Agree

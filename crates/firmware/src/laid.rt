@@ -1,5 +1,5 @@
 // How records go into a table that is lent as a run of records, and out of it: the walk makes them in their places; a run copies them out
-// once, and lays back only what it changed. The functions over the lent run are proved by hand.
+// once, and lays back only what it changed.
 ghost use Rattle.std.specs.Prelude.{◌≡◌, cond, ◌≤◌, ◌<◌, length, get_or, eqb};
 ghost use Rattle.meaning.specs.Drives.{drives_of};
 ghost use Rattle.meaning.specs.State.{most_commands};

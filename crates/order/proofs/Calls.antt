@@ -1,7 +1,6 @@
 -- Demand 3 for any list of calls. Whatever a call is, it leaves what some picks leave, and takes as many steps; so what holds of picks
 -- holds of every call, and of any number of them.
-use mathlib.Core.Path.{◌≡◌, refl, sym, ap, ap₂, ◌∙◌, subst}
-use mathlib.Core.Logic.{◌↔◌}
+use mathlib.Core.Path.{◌≡◌, refl, sym, ap, ap₂, ◌∙◌}
 use Prim.Native.Nat.{ℕ, ◌+◌, ◌≤◌}
 use native.Mathlib.Omega.{arith}
 use mathlib.Core.Bool.{Bool, true, false, cond}
@@ -10,14 +9,11 @@ use lib.Dec.{eqb}
 use borrow.Author.Tests.{eqb-true, eqb-false, eq-eqb}
 use native.Mathlib.Nat.{le_refl}
 use Rattle.meaning.specs.Drives.{Drives}
-use Rattle.meaning.specs.declared.Record.{Record}
-use Rattle.meaning.specs.declared.Walked.{Walked}
 use Rattle.meaning.specs.declared.Ran.{Ran}
 use Rattle.meaning.specs.State.{State}
-use Rattle.meaning.specs.Walk.{WalkGives}
 use Rattle.meaning.specs.Pick.{pick_number, step_at, picked, PickGives}
-use Rattle.meaning.specs.Run.{chain_steps, steps_left, all_finished, run_number, Tally, at_start, one_pick, picks_from, by_picks, as_written, ran_to, run_reply, RunGives}
-use Rattle.meaning.proofs.Rows.{stop, pass}
+use Rattle.meaning.specs.Run.{chain_steps, steps_left, run_number, Tally, at_start, one_pick, picks_from, by_picks, as_written, ran_to, run_reply, RunGives}
+use Rattle.meaning.proofs.Rows.{stop}
 use Rattle.meaning.proofs.Numbers.{run_passed, passed_run}
 use Rattle.order.specs.States.{written_picks, rest}
 use Rattle.order.specs.Calls.{Call, pick, run_by_picks, run_as_written, leaves, takes, after_calls, steps_taken, Makes, MakeAll}

@@ -1,8 +1,8 @@
 -- The earliest unfinished command never waits, since no unfinished one is earlier. And the run as written takes its steps there: it
 -- passes the finished commands by, and of the first other one it takes the next step. So it is a run by picks.
-use mathlib.Core.Path.{◌≡◌, refl, sym, ap, ap₂, ◌∙◌}
+use mathlib.Core.Path.{◌≡◌, refl, sym, ap, ◌∙◌}
 use Prim.Native.Nat.{ℕ, zero, suc, ◌+◌, ◌≤◌, suc-le-suc}
-use native.Mathlib.Nat.{not-suc-le-zero, le_of_suc-le-suc, zero-lt-suc, zero-min, suc-add, zero-add}
+use native.Mathlib.Nat.{not-suc-le-zero, le_of_suc-le-suc, zero-lt-suc, zero-min, zero-add}
 use native.Mathlib.Omega.{arith}
 use mathlib.Core.Bool.{Bool, true, false, cond, true≢false}
 use mathlib.Core.List.{List, [], ◌∷◌, ◌++◌}
@@ -20,14 +20,14 @@ use Rattle.meaning.specs.Touch.{conflict}
 use Rattle.meaning.specs.Step.{step, stepped}
 use Rattle.meaning.specs.Pick.{waits, pick_number, step_at}
 use Rattle.meaning.specs.Run.{all_finished, run_number, Tally, at_start, one_pick, picks_from, by_picks, written, as_written}
-use Rattle.meaning.proofs.Rows.{and-true, stop, pass}
+use Rattle.meaning.proofs.Rows.{and-true, stop}
 use Rattle.meaning.proofs.Tests.{and-false, every_none}
 use Rattle.meaning.proofs.Numbers.{Free, free_place, run_passed, passed_pick, in_table}
 use Rattle.meaning.proofs.Records.{unfinished_some}
 use Rattle.meaning.proofs.Still.{still_accepted}
 use Rattle.order.specs.States.{earliest, written_picks}
 use Rattle.order.specs.Earliest.{Earliest, EarliestIsThere, EarliestNeverWaits, WrittenIsPicks}
-use Rattle.order.proofs.Picks.{before, before_picks}
+use Rattle.order.proofs.Picks.{before_picks}
 use Rattle.order.proofs.Written.{front, one_more, front_one_more, written_cons, written_finished, written_unfinished}
 
 -- a pick of the earliest unfinished command may go

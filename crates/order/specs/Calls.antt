@@ -5,7 +5,7 @@ use Rattle.meaning.specs.Drives.{Drives}
 use Rattle.meaning.specs.declared.Ran.{Ran}
 use Rattle.meaning.specs.State.{State}
 use Rattle.meaning.specs.Pick.{pick_number, picked, PickGives}
-use Rattle.meaning.specs.Run.{Tally, by_picks, as_written, ran_to, RunGives}
+use Rattle.meaning.specs.Run.{by_picks, as_written, ran_to, RunGives}
 
 -- a call that takes steps
 pub data Call : Type 0 where

@@ -6,7 +6,7 @@ use Rattle.meaning.specs.declared.Walked.{Walked}
 use Rattle.meaning.specs.declared.Ran.{Ran}
 use Rattle.meaning.specs.State.{State}
 use Rattle.meaning.specs.Walk.{WalkGives}
-use Rattle.meaning.specs.Run.{chain_steps, steps_left, all_finished, run_number, by_picks, as_written, RunGives}
+use Rattle.meaning.specs.Run.{chain_steps, steps_left, all_finished, by_picks, as_written, RunGives}
 use Rattle.order.specs.Calls.{Call, MakeAll}
 
 -- no step remains exactly if all commands are finished

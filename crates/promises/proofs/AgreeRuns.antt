@@ -11,7 +11,6 @@ use Rattle.meaning.specs.Drives.{Drives}
 use Rattle.meaning.specs.Store.{Store}
 use Rattle.meaning.specs.State.{State}
 use Rattle.meaning.specs.Sizes.{sizes_wrong}
-use Rattle.meaning.specs.Walk.{refused}
 use Rattle.meaning.specs.Command.{remaining, no_record}
 use Rattle.meaning.specs.Step.{step, with_taken, stepped}
 use Rattle.meaning.specs.Pick.{spoiled, pick_number, step_at, picked}

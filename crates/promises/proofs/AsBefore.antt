@@ -13,7 +13,6 @@ use Rattle.meaning.specs.declared.Record.{Record}
 use Rattle.meaning.specs.declared.Ran.{Ran}
 use Rattle.meaning.specs.Drives.{most_units, no_drive, drive_of}
 use Rattle.meaning.specs.State.{State}
-use Rattle.meaning.specs.Walk.{refused}
 use Rattle.meaning.specs.Step.{closing}
 use Rattle.meaning.specs.Pick.{PickGives}
 use Rattle.meaning.specs.Run.{Tally, at_start, by_picks, as_written, RunGives}

@@ -53,14 +53,21 @@ fn structs_in(text: &str) -> BTreeMap<String, (Named, bool)> {
         }
         let name = rest[..end].trim().to_string();
         let fields = parts(inside(&rest[end..], '{', '}')).into_iter().map(name_and_type);
-        let repr_c = text[..at].trim_end().ends_with("#[repr(C)]");
+        let repr_c = attributes_before(&text[..at]).contains(&"#[repr(C)]");
         let before = found.insert(name.clone(), (fields.collect(), repr_c));
         assert!(before.is_none(), "two structs have the name {name}");
     }
     found
 }
 
-/// Every exported function. One that is `extern "C"` without #[no_mangle] would have no plain name.
+/// The attributes of an item, a line each, in the text that ends right before it.
+fn attributes_before(text: &str) -> Vec<&str> {
+    let lines = text.trim_end().lines().rev().map(str::trim);
+    lines.take_while(|line| line.starts_with("#[")).collect()
+}
+
+/// Every exported function. One that is `extern "C"` without #[unsafe(no_mangle)] would have no plain
+/// name.
 fn functions_in(text: &str) -> BTreeMap<String, (Named, String)> {
     let mut found = BTreeMap::new();
     for (at, _) in text.match_indices("extern \"C\" fn ") {
@@ -69,9 +76,10 @@ fn functions_in(text: &str) -> BTreeMap<String, (Named, String)> {
         // a lifetime says nothing of how a parameter is passed
         let name = rest[..open].split('<').next().unwrap_or("").trim().to_string();
         let before = text[..at].trim_end();
-        let marked =
-            before.strip_suffix("pub").is_some_and(|b| b.trim_end().ends_with("#[no_mangle]"));
-        assert!(marked, "{name} is extern \"C\" and not '#[no_mangle] pub'");
+        let marked = before
+            .strip_suffix("pub")
+            .is_some_and(|b| attributes_before(b).contains(&"#[unsafe(no_mangle)]"));
+        assert!(marked, "{name} is extern \"C\" and not '#[unsafe(no_mangle)] pub'");
         let list = inside(&rest[open..], '(', ')');
         let after = rest[open + list.len() + 2..].trim_start();
         let parameters = parts(list).into_iter().flat_map(|part| passed(name_and_type(part)));

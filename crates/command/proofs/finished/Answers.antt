@@ -3,7 +3,6 @@ use mathlib.Core.Path.{ap}
 use Prim.Native.Nat.{ℕ}
 use lib.Dec.{leb}
 use Rattle.meaning.specs.Command.{finished}
-use borrow.Author.Rules.{rules}
 use Rattle.command.proofs.finished.Goals as goal
 
 pub returns : goal.returns

@@ -3,7 +3,6 @@ use mathlib.Core.Path.{ap}
 use Prim.Native.Nat.{ℕ, ◌-◌}
 use native.Mathlib.Omega.{arith}
 use Rattle.meaning.specs.Command.{remaining}
-use borrow.Author.Rules.{rules}
 use Rattle.command.proofs.remaining.Goals as goal
 
 pub returns-then-taken-steps : goal.returns-then-taken-steps

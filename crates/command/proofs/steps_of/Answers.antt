@@ -2,7 +2,6 @@
 use mathlib.Core.Path.{sym, ◌∙◌}
 use Rattle.meaning.specs.Command.{steps_of}
 use Rattle.meaning.proofs.Rows.{pass, stop}
-use borrow.Author.Rules.{rules}
 use Rattle.command.proofs.steps_of.Goals as goal
 
 pub returns-then-transfers : goal.returns-then-transfers

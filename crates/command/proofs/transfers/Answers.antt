@@ -1,7 +1,6 @@
 -- `command::transfers` meets its contract: what its two calls ensure.
 use mathlib.Core.Path.{ap₂}
 use mathlib.Core.Bool.{Bool, ◌||◌}
-use borrow.Author.Rules.{rules}
 use Rattle.command.proofs.transfers.Goals as goal
 
 pub returns : goal.returns

@@ -5,7 +5,6 @@ use native.Mathlib.Omega.{arith}
 use lib.Dec.{eqb}
 use Rattle.meaning.specs.Code.{command_in}
 use Rattle.command.proofs.OneNumber.{kind_is}
-use borrow.Author.Rules.{rules}
 use Rattle.command.proofs.writes.Goals as goal
 
 pub returns : goal.returns

@@ -1,5 +1,4 @@
 -- `ends::drive_end` meets its contract: each part of the answer is what its call ensures, of the drive's count.
-use borrow.Author.Rules.{rules}
 use Rattle.ends.proofs.drive_end.Goals as goal
 
 pub returns : goal.returns

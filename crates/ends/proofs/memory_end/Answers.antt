@@ -1,5 +1,4 @@
 -- `ends::memory_end` meets its contract: each part of the answer is what its calls ensure.
-use borrow.Author.Rules.{rules}
 use Rattle.ends.proofs.memory_end.Goals as goal
 
 pub returns : goal.returns

@@ -1,7 +1,6 @@
 -- `iopb::byte_of` meets its contract: the test that led to each return says which case of `byte_of` holds.
 use borrow.Author.Tests.{le-leb, lt-leb}
 use Rattle.meaning.specs.Fields.{byte_of}
-use borrow.Author.Rules.{rules}
 use Rattle.iopb.proofs.byte_of.Goals as goal
 
 pub returns-then-start-m : goal.returns-then-start-m

@@ -5,7 +5,6 @@ use lib.ListN.{replicate}
 use Rattle.meaning.specs.declared.Link.{Link}
 use Rattle.meaning.specs.declared.Record.{Record}
 use Rattle.meaning.specs.State.{most_commands}
-use borrow.Author.Rules.{rules}
 use Rattle.tables.proofs.no_records.Goals as goal
 
 pub returns : goal.returns

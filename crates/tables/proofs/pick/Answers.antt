@@ -5,7 +5,6 @@ use lib.ListN.{set}
 use Rattle.board.proofs.Picking.{seen_small, laid_there, left_alone}
 use Rattle.meaning.specs.Store.{lent, images}
 use Rattle.meaning.specs.Drives.{drives_of}
-use borrow.Author.Rules.{rules}
 use Rattle.tables.proofs.pick.Goals as goal
 
 pub look_over-seen-requires : goal.look_over-seen-requires

@@ -4,7 +4,6 @@ use Rattle.meaning.specs.State.{state_in}
 use Rattle.tables.proofs.Faces.{picks_by_value}
 use Rattle.meaning.specs.Store.{lent, images}
 use Rattle.meaning.specs.Drives.{drives_of}
-use borrow.Author.Rules.{rules}
 use Rattle.tables.proofs.run_picks.Goals as goal
 
 pub returns : goal.returns

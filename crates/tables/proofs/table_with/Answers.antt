@@ -1,7 +1,6 @@
 -- `tables::table_with` meets its contract: the records passed have their new steps taken, and the others are as they were.
-use Prim.Native.Nat.{◌-◌}
 use native.Mathlib.Omega.{arith}
-use Rattle.board.proofs.Taken.{Laying, laying_begin, laying_more, laying_end}
+use Rattle.board.proofs.Taken.{laying_begin, laying_more, laying_end}
 use borrow.Author.Rules.{rules}
 use Rattle.tables.proofs.table_with.Goals as goal
 

@@ -12,7 +12,6 @@ use Rattle.units.specs.Rooms.{room_in}
 use Rattle.command.proofs.Data.{bad_in_lem, by_own_room}
 use Rattle.board.proofs.Moving.{ready, one_step, steps_small}
 use Rattle.board.proofs.Picking.{wrong_sizes, too_many, some_bad, not_there, at_end, kept_waiting, goes_by, refused_sees, accepted_sees}
-use borrow.Author.Rules.{rules}
 use Rattle.board.proofs.pick.pick_seen.Goals as goal
 
 pub returns-then-sizes_wrong : goal.returns-then-sizes_wrong

@@ -1,16 +1,9 @@
 -- `board::run::chain_steps` meets its contract: the sum so far and what is left of the table make the whole.
-use Prim.Native.Nat.{ℕ}
-use native.Mathlib.Nat.{zero-add}
-use mathlib.Core.Path.{◌≡◌, sym, ap, ◌∙◌}
+use mathlib.Core.Path.{◌≡◌}
 use Prim.Native.Nat.{◌≤◌, ◌+◌, ◌-◌, ◌*◌}
-use native.Mathlib.Omega.{arith}
 use lib.ListN.{length, take, drop}
-use borrow.Author.Rules.{rules}
 use Rattle.meaning.specs.Each.{sum_of}
-use Rattle.meaning.specs.Command.{steps_of, no_record}
-use Rattle.meaning.specs.Run.{chain_steps}
-use Rattle.meaning.proofs.Loops.{sum_at, sum_none}
-use Rattle.board.proofs.Runs.{first_in_table}
+use Rattle.meaning.specs.Command.{steps_of}
 use Rattle.board.proofs.run.chain_steps.Given as goal
 
 abbrev pub invariant-loop-k : goal.invariant-loop-k

@@ -1,7 +1,6 @@
 -- `board::run::first_number` meets its contract: each test decides a row.
 use mathlib.Core.Path.{sym, ◌∙◌}
 use Rattle.meaning.proofs.Rows.{pass, stop}
-use borrow.Author.Rules.{rules}
 use Rattle.board.proofs.run.first_number.Goals as goal
 
 pub returns-then-sizes_wrong : goal.returns-then-sizes_wrong

@@ -1,8 +1,5 @@
 -- `board::run::picks_alike` meets its contract: the picks passed all name the first one's place.
-use Prim.Native.Nat.{◌-◌}
 use native.Mathlib.Omega.{arith}
-use borrow.Author.Rules.{rules}
-use Rattle.board.specs.Alike.{Alike}
 use Rattle.board.proofs.Again.{alike_one, alike_more}
 use Rattle.board.proofs.run.picks_alike.Goals as goal
 

@@ -1,8 +1,7 @@
 -- `board::run::picks_taken` meets its contract: its first loop keeps `Opened` and its second `PicksLeft`; the search in it decides whether
 -- the pick waits.
-use Rattle.meaning.proofs.Rows.{not-true}
 use mathlib.Core.Path.{◌≡◌, refl, sym, ap, ◌∙◌, subst, ap₂}
-use Prim.Native.Nat.{ℕ, ◌+◌, ◌≤◌, ◌<◌, ◌-◌}
+use Prim.Native.Nat.{ℕ, ◌+◌, ◌<◌}
 use native.Mathlib.Omega.{arith}
 use mathlib.Core.Bool.{Bool, true, false}
 use mathlib.Core.List.{List}
@@ -16,7 +15,7 @@ use Rattle.meaning.specs.Command.{remaining, no_record}
 use Rattle.meaning.specs.Run.{run_number, by_picks}
 use Rattle.command.specs.Footprints.{no_footprint, footprint_of}
 use Rattle.board.specs.Changes.{table_with, handed}
-use Rattle.board.proofs.Opening.{Opened, opened_begin, opened_more, all_taken, all_left, number_is, whole_handed, run_goes}
+use Rattle.board.proofs.Opening.{opened_begin, opened_more, all_taken, all_left, number_is, whole_handed, run_goes}
 use Rattle.board.proofs.Runs.{refused_takes, accepted_takes}
 use lib.Dec.{eqb, ltb}
 use Rattle.meaning.specs.declared.Ran.{Ran}
@@ -33,7 +32,7 @@ use Rattle.board.specs.Sight.{blocking}
 use Rattle.board.proofs.Searching.{none_more, some_here, searched_to}
 use Rattle.board.proofs.Picking.{no_place, is_finished, has_to_wait, may_go}
 use Rattle.board.proofs.Taken.{length_with}
-use Rattle.board.proofs.Footprints.{Footprinted, footprinted_none, footprinted_more, done_free, apart_free, by_ranges}
+use Rattle.board.proofs.Footprints.{footprinted_none, footprinted_more, done_free, apart_free, by_ranges}
 use Rattle.board.proofs.ByPicks.{PicksLeft, picks_begin, in_use_few, at_place, searched_on, pick_passed_over, some_left, pick_ready, all_picked, finished_by_count}
 use Rattle.board.proofs.Again.{picks_in_a_row}
 use Rattle.board.proofs.run.picks_taken.Goals as goal

@@ -1,7 +1,6 @@
 -- `board::run::sizes_wrong` meets its contract: its tests decide the "or".
 use mathlib.Core.Path.{sym, ◌∙◌}
 use Rattle.meaning.proofs.Rows.{or_first, or_second}
-use borrow.Author.Rules.{rules}
 use Rattle.board.proofs.run.sizes_wrong.Goals as goal
 
 pub returns-then-sizes_wrong : goal.returns-then-sizes_wrong

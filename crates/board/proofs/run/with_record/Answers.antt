@@ -2,7 +2,6 @@
 use mathlib.Core.Path.{sym}
 use native.Mathlib.Omega.{arith}
 use Rattle.meaning.proofs.Rows.{pass, stop, not-true, not-false}
-use borrow.Author.Rules.{rules}
 use Rattle.board.proofs.run.with_record.Goals as goal
 
 pub returns-then-not-in_use : goal.returns-then-not-in_use

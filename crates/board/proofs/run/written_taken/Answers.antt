@@ -14,14 +14,14 @@ use Rattle.command.specs.Data.{bad_by}
 use Rattle.command.proofs.Data.{by_rooms}
 use Rattle.board.specs.Changes.{handed}
 use Rattle.board.specs.Opening.{seen_with}
-use Rattle.board.proofs.Opening.{Opened, opened_begin, opened_more, all_taken, all_left, number_is, whole_handed, run_goes}
+use Rattle.board.proofs.Opening.{opened_begin, opened_more, all_taken, all_left, number_is, whole_handed, run_goes}
 use Rattle.board.proofs.Runs.{refused_takes, accepted_takes}
 use Rattle.meaning.specs.declared.Ran.{Ran}
 use mathlib.Core.Bool.{Bool}
 use lib.Dec.{ltb, leb}
 use Rattle.board.specs.Changes.{RunTakes}
 use Rattle.board.proofs.Moving.{steps_small}
-use Rattle.board.proofs.Written.{WrittenLeft, written_begin, in_use_few, turn_ready, next_turn, all_written, finished_by_budget}
+use Rattle.board.proofs.Written.{written_begin, in_use_few, turn_ready, next_turn, all_written, finished_by_budget}
 use Rattle.board.proofs.run.written_taken.Goals as goal
 use Rattle.board.proofs.run.written_taken.Goals.{After-fewer-n, At-loop-at, Else-number-ne0}
 

@@ -1,27 +1,10 @@
 -- `board::run::written_taken` meets its contract: its first loop keeps `Opened` and its second `WrittenLeft`.
-use mathlib.Core.Path.{◌≡◌, refl, sym, ap, ap₂, ◌∙◌, subst}
-use Prim.Native.Nat.{ℕ, ◌≤◌, ◌-◌, min}
-use native.Mathlib.Omega.{arith}
-use lib.ListN.{length, get_or}
-use borrow.Author.Rules.{rules}
-use Rattle.meaning.specs.Store.{memory, disk, lent, images}
+use Prim.Native.Nat.{◌-◌}
+use Rattle.meaning.specs.Store.{lent, images}
 use Rattle.meaning.specs.Drives.{drives_of}
-use Rattle.meaning.specs.State.{state_in, most_commands}
-use Rattle.meaning.specs.Command.{remaining, no_record}
-use Rattle.meaning.specs.Run.{run_number, as_written}
-use Rattle.units.specs.declared.rooms.Room.{Room}
-use Rattle.command.specs.Data.{bad_by}
-use Rattle.command.proofs.Data.{by_rooms}
-use Rattle.board.specs.Changes.{handed}
-use Rattle.board.specs.Opening.{seen_with}
-use Rattle.board.proofs.Opening.{Opened, opened_begin, opened_more, all_taken, all_left, number_is, whole_handed, run_goes}
-use Rattle.board.proofs.Runs.{refused_takes, accepted_takes}
-use Rattle.meaning.specs.declared.Ran.{Ran}
-use mathlib.Core.Bool.{Bool}
-use lib.Dec.{ltb, leb}
-use Rattle.board.specs.Changes.{RunTakes}
-use Rattle.board.proofs.Moving.{steps_small}
-use Rattle.board.proofs.Written.{WrittenLeft, written_begin, in_use_few, turn_ready, next_turn, all_written, finished_by_budget}
+use Rattle.meaning.specs.State.{state_in}
+use Rattle.board.proofs.Opening.{Opened}
+use Rattle.board.proofs.Written.{WrittenLeft}
 use Rattle.board.proofs.run.written_taken.Given as goal
 
 abbrev pub invariant-loop-k : goal.invariant-loop-k

@@ -4,7 +4,6 @@ use native.Mathlib.Omega.{arith}
 use lib.ListN.{length-set}
 use lib.Seq.{sets}
 use Rattle.board.proofs.Copying.{four_sets}
-use borrow.Author.Rules.{rules}
 use Rattle.board.proofs.step.close.Goals as goal
 
 pub bounds-memory-at-2 : goal.bounds-memory-at-2

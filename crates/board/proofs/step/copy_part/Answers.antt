@@ -1,6 +1,5 @@
 -- `board::step::copy_part` meets its contract: a part copied to a part as long is `sets`.
 use Rattle.board.proofs.Copying.{copied_is_sets}
-use borrow.Author.Rules.{rules}
 use Rattle.board.proofs.step.copy_part.Goals as goal
 
 pub returns : goal.returns

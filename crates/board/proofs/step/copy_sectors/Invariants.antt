@@ -1,13 +1,9 @@
 -- `board::step::copy_sectors` meets its contract: each sector is copied right behind those before it.
-use mathlib.Core.Path.{◌≡◌, refl, ap, ◌∙◌}
-use Prim.Native.Nat.{ℕ, ◌+◌, ◌*◌, ◌-◌, ◌≤◌}
-use native.Mathlib.Omega.{arith}
-use mathlib.Core.List.{List}
+use mathlib.Core.Path.{◌≡◌}
+use Prim.Native.Nat.{◌*◌, ◌-◌, ◌≤◌}
 use lib.ListN.{length, take, drop}
 use lib.Seq.{sets}
 use Rattle.meaning.specs.Sectors.{sector_bytes}
-use Rattle.board.proofs.Copying.{copied_behind}
-use borrow.Author.Rules.{rules}
 use Rattle.board.proofs.step.copy_sectors.Given as goal
 
 abbrev pub invariant-loop-k : goal.invariant-loop-k

@@ -9,10 +9,9 @@ use lib.ListN.{length, get_or}
 use Rattle.meaning.specs.declared.Record.{Record}
 use Rattle.meaning.specs.Store.{lent, images}
 use Rattle.meaning.specs.Command.{reads, transfers}
-use Rattle.meaning.proofs.Rows.{or-false, not-true, not-false}
+use Rattle.meaning.proofs.Rows.{or-false}
 use Rattle.board.specs.Ready.{Ready}
 use Rattle.board.proofs.Moving.{none_moved, plain_room, listed_room, plain_done, listed_done, ready_below}
-use borrow.Author.Rules.{rules}
 use Rattle.board.proofs.step.move_on_unit.Goals as goal
 use Rattle.board.proofs.step.move_on_unit.Goals.{After-reads-reading}
 

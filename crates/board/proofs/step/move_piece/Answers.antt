@@ -1,6 +1,5 @@
 -- `board::step::move_piece` meets its contract: an empty piece moves nothing, another is one part copied.
 use Rattle.board.proofs.Windows.{piece_nothing, piece_read, piece_written}
-use borrow.Author.Rules.{rules}
 use Rattle.board.proofs.step.move_piece.Goals as goal
 
 pub returns-then-end-skip : goal.returns-then-end-skip

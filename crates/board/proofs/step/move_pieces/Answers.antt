@@ -1,8 +1,8 @@
 -- `board::step::move_pieces` meets its contract: its loop keeps `Laying`.
 use mathlib.Core.Path.{ap}
-use Prim.Native.Nat.{ℕ, ◌+◌, ◌-◌}
+use Prim.Native.Nat.{ℕ, ◌+◌}
 use native.Mathlib.Omega.{arith}
-use Rattle.board.proofs.Windows.{Laying, laying_start, laying_inside, laying_next, laying_done}
+use Rattle.board.proofs.Windows.{laying_start, laying_inside, laying_next, laying_done}
 use borrow.Author.Rules.{rules}
 use Rattle.board.proofs.step.move_pieces.Goals as goal
 

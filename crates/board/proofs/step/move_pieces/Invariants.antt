@@ -1,9 +1,6 @@
 -- `board::step::move_pieces` meets its contract: its loop keeps `Laying`.
-use mathlib.Core.Path.{ap}
-use Prim.Native.Nat.{ℕ, ◌+◌, ◌-◌}
-use native.Mathlib.Omega.{arith}
-use Rattle.board.proofs.Windows.{Laying, laying_start, laying_inside, laying_next, laying_done}
-use borrow.Author.Rules.{rules}
+use Prim.Native.Nat.{◌-◌}
+use Rattle.board.proofs.Windows.{Laying}
 use Rattle.board.proofs.step.move_pieces.Given as goal
 
 abbrev pub invariant-loop-k : goal.invariant-loop-k

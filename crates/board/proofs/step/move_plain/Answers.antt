@@ -2,7 +2,6 @@
 use Prim.Native.Nat.{◌*◌}
 use Rattle.meaning.specs.Sectors.{sector_bytes}
 use Rattle.board.proofs.Windows.{part_read, part_written}
-use borrow.Author.Rules.{rules}
 use Rattle.board.proofs.step.move_plain.Goals as goal
 
 pub returns-then-reading : goal.returns-then-reading

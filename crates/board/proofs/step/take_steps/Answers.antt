@@ -6,7 +6,6 @@ use mathlib.Core.List.{List}
 use Rattle.meaning.specs.Store.{lent, images}
 use Rattle.meaning.specs.Drives.{drives_of}
 use Rattle.board.proofs.Moving.{no_steps, closed_done, open_done}
-use borrow.Author.Rules.{rules}
 use Rattle.board.proofs.step.take_steps.Goals as goal
 
 pub returns-then-n-eq0 : goal.returns-then-n-eq0

@@ -1,7 +1,6 @@
 -- `chain::code::copied` meets its contract: the fields of the thirty bytes alone are those at their address in memory.
 use mathlib.Core.Path.{◌∙◌}
 use Rattle.chain.proofs.Alone.{copied_alone}
-use borrow.Author.Rules.{rules}
 use Rattle.chain.proofs.code.copied.Goals as goal
 
 pub returns : goal.returns

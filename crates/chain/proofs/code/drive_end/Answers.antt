@@ -1,5 +1,4 @@
 -- `chain::code::drive_end` meets its contract: `first` is what it requires.
-use borrow.Author.Rules.{rules}
 use Rattle.chain.proofs.code.drive_end.Goals as goal
 
 pub returns : goal.returns

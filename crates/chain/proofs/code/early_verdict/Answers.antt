@@ -1,7 +1,6 @@
 -- `chain::code::early_verdict` meets its contract: each of the three rows that every command is asked decides, or leaves it to what comes
 -- after.
 use mathlib.Core.Path.{sym, ◌∙◌}
-use borrow.Author.Rules.{rules}
 use borrow.Author.Tests.{eq-eqb, ne_eqb}
 use Rattle.chain.proofs.Verdicts.{passed, stopped}
 use Rattle.chain.proofs.code.early_verdict.Goals as goal

@@ -1,5 +1,4 @@
 -- `chain::code::ended` meets its contract: the byte is what its call ensures.
-use borrow.Author.Rules.{rules}
 use Rattle.chain.proofs.code.ended.Goals as goal
 
 pub returns : goal.returns

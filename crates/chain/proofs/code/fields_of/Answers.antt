@@ -1,6 +1,5 @@
 -- `chain::code::fields_of` meets its contract: each field is what its call ensures.
 use Rattle.meaning.specs.Code.{copied_at}
-use borrow.Author.Rules.{rules}
 use Rattle.chain.proofs.code.fields_of.Goals as goal
 
 pub returns : goal.returns

@@ -4,7 +4,6 @@ use Prim.Native.Nat.{ℕ}
 use borrow.Author.Tests.{eq-eqb, ne_eqb}
 use Rattle.meaning.proofs.Rows.{pass, stop}
 use Rattle.chain.specs.Coding.{fixed_as, late_verdict}
-use borrow.Author.Rules.{rules}
 use Rattle.chain.proofs.code.final_verdict.Goals as goal
 
 pub returns-then-early-ne0 : goal.returns-then-early-ne0

@@ -3,7 +3,6 @@ use mathlib.Core.Path.{sym}
 use borrow.Author.Tests.{eq-eqb, ne_eqb}
 use Rattle.meaning.specs.Code.{link_count}
 use Rattle.meaning.proofs.Rows.{pass, stop}
-use borrow.Author.Rules.{rules}
 use Rattle.chain.proofs.code.link_count.Goals as goal
 
 pub returns-then-n-eq0 : goal.returns-then-n-eq0

@@ -3,9 +3,8 @@ use Prim.Native.Nat.{ℕ, ◌+◌, ◌*◌}
 use lib.Dec.{ltb}
 use Rattle.meaning.specs.Links.{link_bytes}
 use mathlib.Core.Path.{sym, ap, ◌∙◌}
-use borrow.Author.Tests.{lt-ltb, le-ltb, eq-eqb, ne_eqb, not-true, not-false}
+use borrow.Author.Tests.{lt-ltb, le-ltb, eq-eqb, ne_eqb}
 use Rattle.chain.specs.Coding.{to_read}
-use borrow.Author.Rules.{rules}
 use Rattle.chain.proofs.code.links_to_read.Goals as goal
 
 pub returns-then-early-ne0 : goal.returns-then-early-ne0

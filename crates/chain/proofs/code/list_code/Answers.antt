@@ -5,7 +5,6 @@ use lib.Dec.{eqb}
 use borrow.Author.Tests.{eq-eqb, ne_eqb}
 use Rattle.meaning.specs.Sectors.{sector_bytes}
 use Rattle.chain.specs.Coding.{list_code}
-use borrow.Author.Rules.{rules}
 use Rattle.chain.proofs.code.list_code.Goals as goal
 
 pub returns-then-bytes_in-count : goal.returns-then-bytes_in-count

@@ -1,6 +1,5 @@
 -- `chain::code::plain_verdict` meets its contract: each test decides, or leaves it to the next.
 use mathlib.Core.Path.{sym, ap, ◌∙◌}
-use borrow.Author.Rules.{rules}
 use borrow.Author.Tests.{eq-eqb, ne_eqb}
 use Rattle.meaning.specs.declared.End.{End}
 use Rattle.chain.proofs.Verdicts.{passed, stopped, passed_end, none_left}

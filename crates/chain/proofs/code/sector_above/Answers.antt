@@ -1,5 +1,4 @@
 -- `chain::code::sector_above` meets its contract: the maximum is what the call ensures.
-use borrow.Author.Rules.{rules}
 use Rattle.chain.proofs.code.sector_above.Goals as goal
 
 pub returns : goal.returns

@@ -4,7 +4,6 @@ use mathlib.Core.Bool.{Bool, ◌&&◌}
 use lib.Dec.{eqb}
 use borrow.Author.Tests.{lt-ltb, le-ltb}
 use Rattle.meaning.specs.Code.{command_in, nop}
-use borrow.Author.Rules.{rules}
 use Rattle.chain.proofs.code.unimplemented.Goals as goal
 
 pub returns-then-c-gt2 : goal.returns-then-c-gt2

@@ -1,13 +1,12 @@
 -- `chain::links::bytes_in` meets its contract: the sum so far and what is left of the list make the whole.
-use mathlib.Core.Path.{◌≡◌, sym, ap, ◌∙◌}
-use Prim.Native.Nat.{ℕ, ◌≤◌, ◌+◌, ◌-◌, ◌*◌}
+use mathlib.Core.Path.{sym, ap, ◌∙◌}
+use Prim.Native.Nat.{◌+◌}
 use native.Mathlib.Nat.{zero-add, add-zero}
 use native.Mathlib.Omega.{arith}
 use mathlib.Core.List.{List}
-use lib.ListN.{take, drop}
 use Rattle.meaning.specs.declared.Link.{Link}
 use Rattle.meaning.specs.Each.{sum_of}
-use Rattle.meaning.proofs.Links.{Going, going_start, going_on, next_link, no_more_links}
+use Rattle.meaning.proofs.Links.{going_start, going_on, next_link, no_more_links}
 use borrow.Author.Rules.{rules}
 use Rattle.chain.proofs.links.bytes_in.Invariants.{length_of}
 use Rattle.chain.proofs.links.bytes_in.Goals as goal

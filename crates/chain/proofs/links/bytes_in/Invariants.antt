@@ -1,14 +1,10 @@
 -- `chain::links::bytes_in` meets its contract: the sum so far and what is left of the list make the whole.
-use mathlib.Core.Path.{◌≡◌, sym, ap, ◌∙◌}
+use mathlib.Core.Path.{◌≡◌}
 use Prim.Native.Nat.{ℕ, ◌≤◌, ◌+◌, ◌-◌, ◌*◌}
-use native.Mathlib.Nat.{zero-add, add-zero}
-use native.Mathlib.Omega.{arith}
-use mathlib.Core.List.{List}
 use lib.ListN.{take, drop}
 use Rattle.meaning.specs.declared.Link.{Link}
 use Rattle.meaning.specs.Each.{sum_of}
-use Rattle.meaning.proofs.Links.{Going, going_start, going_on, next_link, no_more_links}
-use borrow.Author.Rules.{rules}
+use Rattle.meaning.proofs.Links.{Going}
 use Rattle.chain.proofs.links.bytes_in.Given as goal
 
 abbrev pub length_of : Link → ℕ

@@ -1,6 +1,5 @@
 -- `chain::links::link_at` meets its contract: both fields are what the calls ensure.
 use Rattle.meaning.specs.Links.{link_at}
-use borrow.Author.Rules.{rules}
 use Rattle.chain.proofs.links.link_at.Goals as goal
 
 pub returns : goal.returns

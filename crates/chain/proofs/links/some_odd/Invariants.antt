@@ -1,11 +1,8 @@
 -- `chain::links::some_odd` meets its contract: what was passed begins at even addresses, so what is left decides.
-use mathlib.Core.Path.{sym, ◌∙◌}
 use Prim.Native.Nat.{◌-◌}
-use native.Mathlib.Omega.{arith}
 use Rattle.meaning.specs.declared.Link.{Link}
 use Rattle.meaning.specs.Code as code
-use Rattle.meaning.proofs.Links.{Sought, sought_start, sought_hit, sought_miss, sought_none}
-use borrow.Author.Rules.{rules}
+use Rattle.meaning.proofs.Links.{Sought}
 use Rattle.chain.proofs.links.some_odd.Given as goal
 
 abbrev pub invariant-loop-k : goal.invariant-loop-k

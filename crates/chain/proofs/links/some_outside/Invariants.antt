@@ -1,12 +1,9 @@
 -- `chain::links::some_outside` meets its contract: what was passed lies in memory, so what is left decides.
-use mathlib.Core.Path.{sym, ◌∙◌}
 use Prim.Native.Nat.{◌-◌}
-use native.Mathlib.Omega.{arith}
 use Rattle.meaning.specs.declared.Link.{Link}
 use Rattle.meaning.specs.Links.{range_of}
 use Rattle.meaning.specs.Code as code
-use Rattle.meaning.proofs.Links.{Sought, sought_start, sought_hit, sought_miss, sought_none}
-use borrow.Author.Rules.{rules}
+use Rattle.meaning.proofs.Links.{Sought}
 use Rattle.chain.proofs.links.some_outside.Given as goal
 
 abbrev pub invariant-loop-k : goal.invariant-loop-k

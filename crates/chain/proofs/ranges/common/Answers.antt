@@ -1,5 +1,4 @@
 -- `chain::ranges::common` meets its contract: the later start and the earlier end are what the calls ensure.
-use borrow.Author.Rules.{rules}
 use Rattle.chain.proofs.ranges.common.Goals as goal
 
 pub returns : goal.returns

@@ -1,6 +1,5 @@
 -- `chain::ranges::crosses` meets its contract: the ends are the starts and the numbers.
 use Rattle.meaning.specs.Ranges.{crosses}
-use borrow.Author.Rules.{rules}
 use Rattle.chain.proofs.ranges.crosses.Goals as goal
 
 pub returns : goal.returns

@@ -1,7 +1,6 @@
 -- `chain::sizes::sizes_wrong` meets its contract: memory's test decides the first part of the "or".
 use borrow.Author.Tests.{lt-ltb, le-ltb}
 use Rattle.meaning.specs.Sizes.{store_wrong}
-use borrow.Author.Rules.{rules}
 use Rattle.chain.proofs.sizes.sizes_wrong.Goals as goal
 
 pub returns-then-memory-gt-MEMORY_LIMIT : goal.returns-then-memory-gt-MEMORY_LIMIT

@@ -1,7 +1,6 @@
 -- `chain::walk::find` meets its contract: 1 and 2 are decided by its tests, and the rest by `follow_chain`.
 use mathlib.Core.Path.{sym, ap, ◌∙◌}
 use native.Mathlib.Omega.{arith}
-use borrow.Author.Rules.{rules}
 use Rattle.meaning.specs.Store.{images}
 use Rattle.meaning.specs.Drives.{drives_of}
 use borrow.Author.Tests.{eq-eqb, ne_eqb}

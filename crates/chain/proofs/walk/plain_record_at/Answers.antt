@@ -1,5 +1,4 @@
 -- `chain::walk::plain_record_at` meets its contract: each field is what its call ensures, of what is copied.
-use borrow.Author.Rules.{rules}
 use Rattle.meaning.specs.Drives.{drives_of}
 use Rattle.chain.proofs.Coding.{plain_made}
 use Rattle.chain.proofs.walk.plain_record_at.Goals as goal

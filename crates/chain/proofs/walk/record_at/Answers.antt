@@ -1,6 +1,5 @@
 -- `chain::walk::record_at` meets its contract: the record is made of what is copied there.
 use mathlib.Core.Path.{ap, ◌∙◌}
-use borrow.Author.Rules.{rules}
 use Rattle.meaning.specs.declared.Copied.{Copied}
 use Rattle.meaning.specs.declared.Drive.{Drive}
 use Rattle.meaning.specs.Drives.{drive_of}

@@ -2,7 +2,6 @@
 use Rattle.chain.proofs.Coding.{to_read_few, to_read_in, record_made}
 use native.Mathlib.Omega.{arith}
 use lib.ListN.{length}
-use borrow.Author.Rules.{rules}
 use Rattle.chain.proofs.walk.record_of.Goals as goal
 
 pub links_at-list-requires : goal.links_at-list-requires

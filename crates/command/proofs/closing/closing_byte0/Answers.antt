@@ -2,7 +2,6 @@
 use borrow.Author.Tests.{eq-eqb, ne_eqb}
 use native.Mathlib.Nat.{add-zero}
 use Rattle.meaning.specs.Step.{closing_byte0}
-use borrow.Author.Rules.{rules}
 use Rattle.command.proofs.closing.closing_byte0.Goals as goal
 
 pub returns-then-r-eq0 : goal.returns-then-r-eq0

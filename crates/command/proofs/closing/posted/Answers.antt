@@ -1,6 +1,5 @@
 -- `command::closing::posted` meets its contract: each byte is what its call ensures.
 use Rattle.meaning.specs.Step.{closing}
-use borrow.Author.Rules.{rules}
 use Rattle.command.proofs.closing.posted.Goals as goal
 
 pub returns : goal.returns

@@ -2,7 +2,6 @@
 use mathlib.Core.Path.{ap, ◌∙◌}
 use Rattle.units.specs.declared.rooms.Room.{Room}
 use Rattle.command.specs.Data.{bad_by}
-use borrow.Author.Rules.{rules}
 use Rattle.command.proofs.sound.bad_among.Goals as goal
 
 pub bad_by-requires : goal.bad_by-requires

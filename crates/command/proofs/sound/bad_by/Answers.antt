@@ -8,7 +8,6 @@ use Rattle.meaning.specs.Command.{steps_of}
 use Rattle.meaning.proofs.Rows.{or_second}
 use Rattle.meaning.proofs.Tests.{or_no}
 use Rattle.command.specs.Data.{bad_move, bad_by}
-use borrow.Author.Rules.{rules}
 use Rattle.command.proofs.sound.bad_by.Goals as goal
 
 pub returns-then-memory-r : goal.returns-then-memory-r

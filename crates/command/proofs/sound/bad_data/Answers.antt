@@ -12,7 +12,6 @@ use Rattle.command.specs.declared.touch.Hull.{Hull}
 use Rattle.command.specs.Footprints.{data_hull}
 use Rattle.command.specs.Data.{bad_data}
 use Rattle.command.proofs.Data.{plain_bytes}
-use borrow.Author.Rules.{rules}
 use Rattle.command.proofs.sound.bad_data.Goals as goal
 
 pub returns-then-memory-h : goal.returns-then-memory-h

@@ -7,7 +7,6 @@ use Rattle.meaning.proofs.Rows.{or_first, or_second}
 use Rattle.meaning.proofs.Tests.{and_no}
 use Rattle.command.specs.Data.{bad_move}
 use Rattle.command.proofs.OneNumber.{writes_by_command}
-use borrow.Author.Rules.{rules}
 use Rattle.command.proofs.sound.bad_transfer.Goals as goal
 
 pub returns-then-r-eq0 : goal.returns-then-r-eq0

@@ -1,5 +1,4 @@
 -- `command::sound::judge` meets its contract: both fields are what the calls ensure.
-use borrow.Author.Rules.{rules}
 use Rattle.command.proofs.sound.judge.Goals as goal
 
 pub footprint_with-requires : goal.footprint_with-requires

@@ -1,5 +1,4 @@
 -- `command::sound::look` meets its contract: both fields are what the calls ensure.
-use borrow.Author.Rules.{rules}
 use Rattle.command.proofs.sound.look.Goals as goal
 
 pub bad_among-requires : goal.bad_among-requires

@@ -6,7 +6,6 @@ use Rattle.meaning.proofs.Rows.{not-true, not-false, and_first, and_second}
 use Rattle.command.specs.declared.touch.Footprint.{Footprint}
 use Rattle.command.specs.Footprints.{footprint_of, footprints_meet}
 use Rattle.command.specs.Look.{may_block}
-use borrow.Author.Rules.{rules}
 use Rattle.command.proofs.sound.may_block.Goals as goal
 
 pub returns-then-not-earlier : goal.returns-then-not-earlier

@@ -2,7 +2,6 @@
 use mathlib.Core.Path.{sym, ap₂, ◌∙◌}
 use mathlib.Core.Bool.{Bool, ◌||◌}
 use Rattle.meaning.proofs.Rows.{and_first, and_second}
-use borrow.Author.Rules.{rules}
 use Rattle.command.proofs.touch.data_conflicts.Goals as goal
 
 pub returns-then-reads : goal.returns-then-reads

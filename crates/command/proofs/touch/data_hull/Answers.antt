@@ -3,11 +3,9 @@ use mathlib.Core.Path.{sym, ap, ap₂, ◌∙◌}
 use Prim.Native.Nat.{ℕ}
 use native.Mathlib.Omega.{arith}
 use Rattle.meaning.specs.Ranges.{bytes}
-use Rattle.meaning.proofs.Rows.{not-true, not-false}
 use Rattle.command.proofs.Moved.{moved_none, moved_plain, moved_listed}
 use Rattle.command.specs.declared.touch.Hull.{Hull}
 use Rattle.command.specs.Footprints.{hull_with, hull_of}
-use borrow.Author.Rules.{rules}
 use Rattle.command.proofs.touch.data_hull.Goals as goal
 
 pub returns-then-not-transfers : goal.returns-then-not-transfers

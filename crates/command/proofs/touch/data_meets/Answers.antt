@@ -1,7 +1,6 @@
 -- `command::touch::data_meets` meets its contract: its test decides the first half of the "and".
 use mathlib.Core.Path.{sym, ◌∙◌}
 use Rattle.meaning.proofs.Rows.{and_first, and_second}
-use borrow.Author.Rules.{rules}
 use Rattle.command.proofs.touch.data_meets.Goals as goal
 
 pub returns-then-f-g : goal.returns-then-f-g

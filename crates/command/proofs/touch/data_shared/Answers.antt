@@ -6,11 +6,9 @@ use Rattle.meaning.specs.Each.{some_of}
 use Rattle.meaning.specs.Ranges.{Range, bytes, overlap, meet}
 use Rattle.meaning.specs.Links.{range_of}
 use Rattle.meaning.specs.Command.{links_of}
-use Rattle.meaning.proofs.Rows.{not-true, not-false}
 use Rattle.meaning.proofs.Tests.{or_no, some_map}
 use Rattle.command.specs.Footprints.{moved_data}
 use Rattle.command.proofs.Moved.{moved_none, moved_plain, moved_listed}
-use borrow.Author.Rules.{rules}
 use Rattle.command.proofs.touch.data_shared.Goals as goal
 
 pub returns-then-not-transfers : goal.returns-then-not-transfers

@@ -1,6 +1,5 @@
 -- `command::touch::footprint_with` meets its contract: each field is what its call ensures.
 use Rattle.command.specs.Footprints.{footprint_of}
-use borrow.Author.Rules.{rules}
 use Rattle.command.proofs.touch.footprint_with.Goals as goal
 
 pub returns : goal.returns

@@ -2,7 +2,6 @@
 use mathlib.Core.Path.{sym, ◌∙◌}
 use Rattle.meaning.proofs.Rows.{or_first, or_second}
 use Rattle.command.specs.Footprints.{footprints_meet}
-use borrow.Author.Rules.{rules}
 use Rattle.command.proofs.touch.footprints_meet.Goals as goal
 
 pub returns-then-crosses : goal.returns-then-crosses

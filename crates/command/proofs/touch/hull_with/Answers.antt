@@ -1,7 +1,6 @@
 -- `command::touch::hull_with` meets its contract: the earlier start and the later end are what the calls ensure.
 use mathlib.Core.Path.{ap, ◌∙◌}
 use Prim.Native.Nat.{ℕ, ◌+◌, max, min}
-use borrow.Author.Rules.{rules}
 use Rattle.command.proofs.touch.hull_with.Goals as goal
 
 pub returns : goal.returns

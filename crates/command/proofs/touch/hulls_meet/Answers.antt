@@ -1,7 +1,6 @@
 -- `command::touch::hulls_meet` meets its contract: the later start and the earlier end are what the calls ensure.
 use mathlib.Core.Path.{ap₂}
 use lib.Dec.{ltb}
-use borrow.Author.Rules.{rules}
 use Rattle.command.proofs.touch.hulls_meet.Goals as goal
 
 pub returns : goal.returns

@@ -1,15 +1,11 @@
 -- `command::touch::list_hull` meets its contract: the hull so far, with the ranges that are left, is the whole.
-use mathlib.Core.Path.{◌≡◌, sym, ap, ap₂, ◌∙◌}
-use Prim.Native.Nat.{◌+◌, ◌-◌, ◌*◌, ◌≤◌}
-use native.Mathlib.Omega.{arith}
-use mathlib.Core.List.{List, map}
+use mathlib.Core.Path.{◌≡◌}
+use Prim.Native.Nat.{◌-◌, ◌*◌, ◌≤◌}
+use mathlib.Core.List.{map}
 use lib.ListN.{take, drop}
-use Rattle.meaning.specs.declared.Link.{Link}
 use Rattle.meaning.specs.Links.{range_of}
-use Rattle.meaning.proofs.Links.{Going, going_start, going_on, next_link, no_more_links}
-use Rattle.command.specs.declared.touch.Hull.{Hull}
+use Rattle.meaning.proofs.Links.{Going}
 use Rattle.command.specs.Footprints.{hull_from, hull_of}
-use borrow.Author.Rules.{rules}
 use Rattle.command.proofs.touch.list_hull.Given as goal
 
 abbrev pub invariant-loop-k : goal.invariant-loop-k

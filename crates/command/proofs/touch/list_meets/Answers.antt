@@ -1,11 +1,10 @@
 -- `command::touch::list_meets` meets its contract: what was passed has nothing in common, so what is left decides.
 use mathlib.Core.Path.{sym, ◌∙◌}
-use Prim.Native.Nat.{◌-◌}
 use native.Mathlib.Omega.{arith}
 use Rattle.meaning.specs.declared.Link.{Link}
 use Rattle.meaning.specs.Ranges.{bytes, overlap}
 use Rattle.meaning.specs.Links.{range_of}
-use Rattle.meaning.proofs.Links.{Sought, sought_start, sought_hit, sought_miss, sought_none}
+use Rattle.meaning.proofs.Links.{sought_start, sought_hit, sought_miss, sought_none}
 use borrow.Author.Rules.{rules}
 use Rattle.command.proofs.touch.list_meets.Goals as goal
 

@@ -1,14 +1,11 @@
 -- `command::touch::list_meets_data` meets its contract: what was passed has nothing in common, so what is left decides.
-use mathlib.Core.Path.{sym, ◌∙◌}
 use Prim.Native.Nat.{◌-◌}
-use native.Mathlib.Omega.{arith}
 use Rattle.meaning.specs.declared.Link.{Link}
 use Rattle.meaning.specs.Each.{some_of}
 use Rattle.meaning.specs.Ranges.{overlap}
 use Rattle.meaning.specs.Links.{range_of}
 use Rattle.command.specs.Footprints.{moved_data}
-use Rattle.meaning.proofs.Links.{Sought, sought_start, sought_hit, sought_miss, sought_none}
-use borrow.Author.Rules.{rules}
+use Rattle.meaning.proofs.Links.{Sought}
 use Rattle.command.proofs.touch.list_meets_data.Given as goal
 
 abbrev pub invariant-loop-k : goal.invariant-loop-k

@@ -1,14 +1,12 @@
 -- `command::touch::meets_data` meets its contract: whether the command moves data, and whether it has a list, decides what is tested.
 use mathlib.Core.Path.{sym, ap, ◌∙◌}
 use Rattle.meaning.specs.Ranges.{bytes}
-use Rattle.meaning.proofs.Rows.{not-true, not-false}
 use Rattle.command.proofs.Moved.{moved_none, moved_plain, moved_listed}
 use Rattle.meaning.specs.Each.{some_of}
 use Rattle.meaning.specs.Ranges.{crosses, overlap}
 use Rattle.meaning.specs.Links.{range_of}
 use Rattle.meaning.specs.Command.{links_of}
 use Rattle.meaning.proofs.Tests.{or_no, some_map}
-use borrow.Author.Rules.{rules}
 use Rattle.command.proofs.touch.meets_data.Goals as goal
 
 pub returns-then-not-transfers : goal.returns-then-not-transfers

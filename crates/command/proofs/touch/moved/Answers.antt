@@ -1,7 +1,6 @@
 -- `command::touch::moved` meets its contract: its test decides between the count and none.
 use mathlib.Core.Path.{sym, ◌∙◌}
 use Rattle.meaning.proofs.Rows.{pass, stop}
-use borrow.Author.Rules.{rules}
 use Rattle.command.proofs.touch.moved.Goals as goal
 
 pub returns-then-transfers : goal.returns-then-transfers

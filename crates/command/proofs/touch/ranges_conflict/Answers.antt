@@ -2,7 +2,6 @@
 use mathlib.Core.Path.{sym, ◌∙◌}
 use Rattle.meaning.proofs.Rows.{or_first, or_second}
 use Rattle.command.proofs.Touching.{five, conflict_is}
-use borrow.Author.Rules.{rules}
 use Rattle.command.proofs.touch.ranges_conflict.Goals as goal
 
 pub returns-then-crosses : goal.returns-then-crosses

@@ -4,7 +4,6 @@ use mathlib.Core.Bool.{Bool, ◌||◌}
 use Rattle.meaning.proofs.Rows.{and_first, and_second}
 use Prim.Native.Nat.{ℕ}
 use Rattle.meaning.specs.Ranges.{sectors_of, overlap}
-use borrow.Author.Rules.{rules}
 use Rattle.command.proofs.touch.sectors_conflict.Goals as goal
 
 pub returns-then-writes : goal.returns-then-writes

@@ -2,7 +2,6 @@
 use Rattle.meaning.proofs.Rows.{and_first, and_second}
 use borrow.Author.Tests.{eq-eqb, ne_eqb}
 use mathlib.Core.Path.{sym, ◌∙◌}
-use borrow.Author.Rules.{rules}
 use Rattle.command.proofs.touch.sectors_cross.Goals as goal
 
 pub returns-then-unit-other : goal.returns-then-unit-other

@@ -5,7 +5,6 @@ use Prim.Native.Nat.{ℕ, ◌+◌, max, min}
 use native.Mathlib.Omega.{arith}
 use lib.Dec.{ltb}
 use borrow.Author.Tests.{le-ltb}
-use borrow.Author.Rules.{rules}
 use Rattle.command.proofs.touch.status_meets.Goals as goal
 
 pub returns-then-from-g : goal.returns-then-from-g

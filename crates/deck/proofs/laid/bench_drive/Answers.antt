@@ -1,5 +1,4 @@
 -- `deck::laid::bench_drive` meets its contract: its mark is what `protects` ensures.
-use borrow.Author.Rules.{rules}
 use Rattle.meaning.specs.Deck.{bench_drive}
 use Rattle.deck.proofs.laid.bench_drive.Goals as goal
 

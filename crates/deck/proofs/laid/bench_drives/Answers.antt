@@ -1,5 +1,4 @@
 -- `deck::laid::bench_drives` meets its contract: its first drive is what `bench_drive` ensures.
-use borrow.Author.Rules.{rules}
 use Rattle.deck.proofs.laid.bench_drives.Goals as goal
 
 pub returns : goal.returns

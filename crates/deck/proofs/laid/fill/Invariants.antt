@@ -1,12 +1,8 @@
 -- `deck::laid::fill` meets its contract: after k turns the first k bytes are v.
-use mathlib.Core.Path.{◌≡◌, refl, ap, ◌∙◌}
-use Prim.Native.Nat.{ℕ, ◌≤◌, ◌-◌}
-use native.Mathlib.Omega.{arith}
-use mathlib.Core.List.{List, ◌++◌}
-use lib.ListN.{length, drop, set, replicate, length-set}
-use borrow.Author.Fill.{fill_more}
-use borrow.Author.Rules.{rules}
-use Rattle.deck.proofs.Laying.{all_filled}
+use mathlib.Core.Path.{◌≡◌}
+use Prim.Native.Nat.{◌≤◌, ◌-◌}
+use mathlib.Core.List.{◌++◌}
+use lib.ListN.{length, drop, replicate}
 use Rattle.deck.proofs.laid.fill.Given as goal
 
 abbrev pub invariant-loop-k : goal.invariant-loop-k

@@ -1,11 +1,7 @@
 -- `deck::laid::fill_image` meets its contract: after n turns the first n sectors are filled.
-use mathlib.Core.Path.{◌≡◌, refl, sym, ◌∙◌}
-use Prim.Native.Nat.{◌*◌, ◌≤◌, ◌-◌}
+use mathlib.Core.Path.{refl, sym, ◌∙◌}
 use native.Mathlib.Omega.{arith}
-use mathlib.Core.List.{◌++◌}
-use lib.ListN.{length, drop}
 use borrow.Author.Rules.{rules}
-use Rattle.meaning.specs.Sectors.{sector_bytes}
 use Rattle.meaning.specs.Deck.{sectors_to}
 use Rattle.deck.proofs.Laying.{fills_more, whole_image}
 use Rattle.deck.proofs.laid.fill_image.Goals as goal
@@ -20,11 +16,11 @@ overflow_add-end c = omega arith
 pub slice_bounds-fill-count : goal.slice_bounds-fill-count
 slice_bounds-fill-count c = omega arith
 
-pub LOST-slice-bounds-fill-start : goal.LOST-slice-bounds-fill-start
-LOST-slice-bounds-fill-start c = omega arith
+pub slice_bounds-fill-start : goal.slice_bounds-fill-start
+slice_bounds-fill-start c = omega arith
 
-pub LOST-slice-bounds-fill-end : goal.LOST-slice-bounds-fill-end
-LOST-slice-bounds-fill-end c = omega arith
+pub slice_bounds-fill-end : goal.slice_bounds-fill-end
+slice_bounds-fill-end c = omega arith
 
 pub overflow_add-n : goal.overflow_add-n
 overflow_add-n c = omega arith

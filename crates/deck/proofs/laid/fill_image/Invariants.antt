@@ -1,13 +1,10 @@
 -- `deck::laid::fill_image` meets its contract: after n turns the first n sectors are filled.
-use mathlib.Core.Path.{◌≡◌, refl, sym, ◌∙◌}
+use mathlib.Core.Path.{◌≡◌}
 use Prim.Native.Nat.{◌*◌, ◌≤◌, ◌-◌}
-use native.Mathlib.Omega.{arith}
 use mathlib.Core.List.{◌++◌}
 use lib.ListN.{length, drop}
-use borrow.Author.Rules.{rules}
 use Rattle.meaning.specs.Sectors.{sector_bytes}
 use Rattle.meaning.specs.Deck.{sectors_to}
-use Rattle.deck.proofs.Laying.{fills_more, whole_image}
 use Rattle.deck.proofs.laid.fill_image.Given as goal
 
 abbrev pub invariant-loop-n : goal.invariant-loop-n

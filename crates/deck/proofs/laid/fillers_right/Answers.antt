@@ -1,6 +1,5 @@
 -- `deck::laid::fillers_right` meets its contract: each test decides a part of the "and".
 use mathlib.Core.Path.{sym}
-use borrow.Author.Rules.{rules}
 use Rattle.deck.proofs.Laying.{wrong_30, first_31, other_31}
 use Rattle.deck.proofs.laid.fillers_right.Goals as goal
 

@@ -1,12 +1,9 @@
 -- `deck::laid::is_deck` meets its contract: each test decides a part of the "and"; the records passed have their fillers right, so
 -- those that are left decide.
-use mathlib.Core.Path.{◌≡◌, sym, ◌∙◌}
+use mathlib.Core.Path.{◌≡◌}
 use Prim.Native.Nat.{◌≤◌, ◌-◌}
-use native.Mathlib.Omega.{arith}
 use Rattle.meaning.specs.Deck.{record_count, fillers_right, is_deck}
-use Rattle.meaning.proofs.Rows.{not-true, not-false}
-use Rattle.deck.proofs.Counting.{from_on, from_start, passes_at, fails_at, none_left}
-use Rattle.deck.proofs.Laying.{empty_no, uneven_no, many_no, by_fillers}
+use Rattle.deck.proofs.Counting.{from_on}
 use Rattle.deck.proofs.laid.is_deck.Given as goal
 
 abbrev pub invariant-loop-k : goal.invariant-loop-k

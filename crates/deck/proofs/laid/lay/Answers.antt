@@ -1,12 +1,8 @@
 -- `deck::laid::lay` meets its contract: after k turns the first k records are laid in zeros.
-use mathlib.Core.Path.{◌≡◌, refl, sym, ◌∙◌}
-use Prim.Native.Nat.{◌≤◌, ◌-◌}
+use mathlib.Core.Path.{refl, sym, ◌∙◌}
 use native.Mathlib.Omega.{arith}
-use mathlib.Core.List.{foldl}
 use lib.ListN.{length}
 use borrow.Author.Rules.{rules}
-use Rattle.meaning.specs.Each.{up_to}
-use Rattle.meaning.specs.Deck.{memory_bytes, record_count, lay_record}
 use Rattle.deck.proofs.Laying.{lays_more, all_laid}
 use Rattle.deck.proofs.laid.lay.Goals as goal
 
@@ -27,7 +23,7 @@ loop-k-preserved c =
     let a = c.args in
     let l = c.loop-k in
     let v = c.lay_record in
-    (omega arith, search rules, lays_more a.bytes.now c.fill.new.0 l.memory _ l.k l.invariant.2 v.ensures)
+    (omega arith, search rules, lays_more a.bytes.now c.fill.new.run l.memory _ l.k l.invariant.2 v.ensures)
 
 pub shape_of-memory : goal.shape_of-memory
 shape_of-memory c = c.loop-k.invariant.1 ∙ sym c.requires.0
@@ -36,4 +32,4 @@ pub returns : goal.returns
 returns c =
     let a = c.args in
     let l = c.loop-k in
-    all_laid a.bytes.now c.fill.new.0 l.memory (length a.memory.now) l.k c.fill.ensures c.requires.0 (omega arith) l.invariant.2
+    all_laid a.bytes.now c.fill.new.run l.memory (length a.memory.now) l.k c.fill.ensures c.requires.0 (omega arith) l.invariant.2

@@ -1,13 +1,10 @@
 -- `deck::laid::lay` meets its contract: after k turns the first k records are laid in zeros.
-use mathlib.Core.Path.{◌≡◌, refl, sym, ◌∙◌}
+use mathlib.Core.Path.{◌≡◌}
 use Prim.Native.Nat.{◌≤◌, ◌-◌}
-use native.Mathlib.Omega.{arith}
 use mathlib.Core.List.{foldl}
 use lib.ListN.{length}
-use borrow.Author.Rules.{rules}
 use Rattle.meaning.specs.Each.{up_to}
 use Rattle.meaning.specs.Deck.{memory_bytes, record_count, lay_record}
-use Rattle.deck.proofs.Laying.{lays_more, all_laid}
 use Rattle.deck.proofs.laid.lay.Given as goal
 
 abbrev pub invariant-loop-k : goal.invariant-loop-k

@@ -3,7 +3,6 @@ use mathlib.Core.Path.{sym, ap}
 use Prim.Native.Nat.{ℕ}
 use lib.ListN.{get_or-eq_default}
 use lib.Dec.{eqb}
-use borrow.Author.Rules.{rules}
 use Rattle.deck.proofs.laid.protects.Goals as goal
 
 pub returns-then-bytes-le31 : goal.returns-then-bytes-le31

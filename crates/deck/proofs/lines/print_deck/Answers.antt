@@ -1,5 +1,4 @@
 -- `deck::lines::print_deck` meets its contract: the lines are those of the deck's outcome.
-use borrow.Author.Rules.{rules}
 use Rattle.deck.proofs.Bounds.{report_steps}
 use Rattle.deck.proofs.Outcomes.{too_short, prints}
 use Rattle.deck.proofs.lines.print_deck.Goals as goal
@@ -20,4 +19,4 @@ returns c =
     let a = c.args in
     let put = c.put_outcome in
     let report = c.run_deck-report in
-    prints a.bytes.now a.out.now report.result put.result put.new.0 c.if-out-lt-MOST_BYTES.false report.ensures put.ensures
+    prints a.bytes.now a.out.now report.result put.result put.new.out c.if-out-lt-MOST_BYTES.false report.ensures put.ensures

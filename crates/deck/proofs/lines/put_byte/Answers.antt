@@ -1,5 +1,4 @@
 -- `deck::lines::put_byte` meets its contract: one store.
-use borrow.Author.Rules.{rules}
 use Rattle.deck.proofs.Putting.{put_one}
 use Rattle.deck.proofs.lines.put_byte.Goals as goal
 

@@ -1,7 +1,6 @@
 -- `deck::lines::put_command` meets its contract: its four pieces are those of a line.
 use mathlib.Core.Path.{sym}
 use native.Mathlib.Omega.{arith}
-use borrow.Author.Rules.{rules}
 use Rattle.meaning.specs.Lines.{decimal, hex}
 use Rattle.deck.proofs.Putting.{put_as, put_line}
 use Rattle.deck.proofs.Numerals.{decimal_few, line_is}
@@ -26,5 +25,5 @@ returns c =
     let gap = c.put_byte-space in
     let code = c.put_hex-code in
     let end = c.put_byte in
-    put_as a.out.now a.at _ _ end.result end.new.0 (sym (line_is a.place a.code))
-    (put_line a.out.now a.at (decimal a.place) digits.result digits.new.0 gap.result gap.new.0 (hex a.code) code.result code.new.0 end.result end.new.0 digits.ensures gap.ensures code.ensures end.ensures)
+    put_as a.out.now a.at _ _ end.result end.new.out (sym (line_is a.place a.code))
+    (put_line a.out.now a.at (decimal a.place) digits.result digits.new.out gap.result gap.new.out (hex a.code) code.result code.new.out end.result end.new.out digits.ensures gap.ensures code.ensures end.ensures)

@@ -1,9 +1,9 @@
 -- `deck::lines::put_commands` meets its contract: after k turns the first k lines stand there, the first ten of five bytes and the others of at most six.
 use mathlib.Core.Path.{◌≡◌, refl, sym, ◌∙◌, subst}
-use Prim.Native.Nat.{ℕ, ◌*◌, ◌≤◌, ◌-◌, min}
+use Prim.Native.Nat.{ℕ}
 use native.Mathlib.Omega.{arith}
 use mathlib.Core.List.{[], ◌∷◌}
-use lib.ListN.{length, take, get_or}
+use lib.ListN.{take, get_or}
 use borrow.Author.Rules.{rules}
 use Rattle.meaning.specs.Lines.{command_lines}
 use Rattle.deck.specs.Put.{Put}
@@ -37,9 +37,9 @@ loop-k-preserved c =
       omega arith,
       omega (arith, lines_room l.k code l.at (omega arith) l.invariant.1, v.ensures.past),
       l.invariant.2,
-      v.auto.0 ∙ l.invariant.3,
-      put_as a.out.now 0 _ _ v.result v.new.0 (lines_at a.codes l.k (omega arith))
-          (put_then a.out.now 0 (command_lines 0 (take l.k a.codes)) l.at l.out (command_lines l.k (code ∷ [])) v.result v.new.0 l.invariant.4 v.ensures),
+      v.auto.out ∙ l.invariant.3,
+      put_as a.out.now 0 _ _ v.result v.new.out (lines_at a.codes l.k (omega arith))
+          (put_then a.out.now 0 (command_lines 0 (take l.k a.codes)) l.at l.out (command_lines l.k (code ∷ [])) v.result v.new.out l.invariant.4 v.ensures),
     )
 
 pub shape_of-out : goal.shape_of-out

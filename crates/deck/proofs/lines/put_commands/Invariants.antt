@@ -1,14 +1,9 @@
 -- `deck::lines::put_commands` meets its contract: after k turns the first k lines stand there, the first ten of five bytes and the others of at most six.
-use mathlib.Core.Path.{◌≡◌, refl, sym, ◌∙◌, subst}
-use Prim.Native.Nat.{ℕ, ◌*◌, ◌≤◌, ◌-◌, min}
-use native.Mathlib.Omega.{arith}
-use mathlib.Core.List.{[], ◌∷◌}
-use lib.ListN.{length, take, get_or}
-use borrow.Author.Rules.{rules}
+use mathlib.Core.Path.{◌≡◌}
+use Prim.Native.Nat.{◌*◌, ◌≤◌, ◌-◌, min}
+use lib.ListN.{length, take}
 use Rattle.meaning.specs.Lines.{command_lines}
 use Rattle.deck.specs.Put.{Put}
-use Rattle.deck.proofs.Putting.{put_none, put_as, put_then}
-use Rattle.deck.proofs.Numerals.{no_lines, lines_at, lines_room}
 use Rattle.deck.proofs.lines.put_commands.Given as goal
 
 abbrev pub invariant-loop-k : goal.invariant-loop-k

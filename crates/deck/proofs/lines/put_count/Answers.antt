@@ -1,6 +1,5 @@
 -- `deck::lines::put_count` meets its contract: its four pieces are those of a line.
 use native.Mathlib.Omega.{arith}
-use borrow.Author.Rules.{rules}
 use Rattle.meaning.specs.Lines.{decimal}
 use Rattle.deck.proofs.Putting.{put_line}
 use Rattle.deck.proofs.lines.put_count.Goals as goal
@@ -18,4 +17,4 @@ returns c =
     let gap = c.put_byte-number in
     let digits = c.put_decimal-end in
     let end = c.put_byte in
-    put_line a.out.now a.at a.word.now word.result word.new.0 gap.result gap.new.0 (decimal a.n) digits.result digits.new.0 end.result end.new.0 word.ensures gap.ensures digits.ensures end.ensures
+    put_line a.out.now a.at a.word.now word.result word.new.out gap.result gap.new.out (decimal a.n) digits.result digits.new.out end.result end.new.out word.ensures gap.ensures digits.ensures end.ensures

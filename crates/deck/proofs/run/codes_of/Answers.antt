@@ -1,8 +1,7 @@
 -- `deck::run::codes_of` meets its contract: after k turns the first k codes stand in front of zeros.
 use mathlib.Core.Path.{◌≡◌, refl, ap, ◌∙◌}
-use Prim.Native.Nat.{◌≤◌, ◌-◌}
 use native.Mathlib.Omega.{arith}
-use lib.ListN.{length, take, drop}
+use lib.ListN.{take, drop}
 use borrow.Author.Rules.{rules}
 use Rattle.deck.proofs.Running.{codes_to, codes_more, codes_front, codes_rest}
 use Rattle.deck.proofs.run.codes_of.Goals as goal
@@ -35,7 +34,8 @@ returns c =
     let a = c.args in
     let l = c.loop-k in
     let all : l.k ≡ a.commands = omega arith in
-    let told = l.invariant.2 ∙ ap (codes_to a.table) all in (
-      ap (take a.commands) told ∙ codes_front a.table l.invariant.1 a.commands c.requires,
-      ap (drop a.commands) told ∙ codes_rest a.table l.invariant.1 a.commands c.requires,
-    )
+    let told = l.invariant.2 ∙ ap (codes_to a.table) all in
+    record {
+      result_value = ap (take a.commands) told ∙ codes_front a.table l.invariant.1 a.commands c.requires;
+      result_value_2 = ap (drop a.commands) told ∙ codes_rest a.table l.invariant.1 a.commands c.requires;
+    }

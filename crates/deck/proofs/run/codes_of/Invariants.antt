@@ -1,10 +1,8 @@
 -- `deck::run::codes_of` meets its contract: after k turns the first k codes stand in front of zeros.
-use mathlib.Core.Path.{◌≡◌, refl, ap, ◌∙◌}
+use mathlib.Core.Path.{◌≡◌}
 use Prim.Native.Nat.{◌≤◌, ◌-◌}
-use native.Mathlib.Omega.{arith}
-use lib.ListN.{length, take, drop}
-use borrow.Author.Rules.{rules}
-use Rattle.deck.proofs.Running.{codes_to, codes_more, codes_front, codes_rest}
+use lib.ListN.{length}
+use Rattle.deck.proofs.Running.{codes_to}
 use Rattle.deck.proofs.run.codes_of.Given as goal
 
 abbrev pub invariant-loop-k : goal.invariant-loop-k

@@ -1,8 +1,6 @@
 -- `deck::run::run_deck` meets its contract: a deck is laid, and its outcome is that of the chain laid.
 use mathlib.Core.Path.{refl, sym, ◌∙◌}
-use borrow.Author.Rules.{rules}
 use Rattle.meaning.specs.Bench.{outcome_of}
-use Rattle.meaning.proofs.Rows.{not-true, not-false}
 use Rattle.deck.proofs.Laying.{deck_few}
 use Rattle.deck.proofs.Outcomes.{no_deck_lem, reports_none, reports_deck}
 use Rattle.deck.proofs.run.run_deck.Goals as goal
