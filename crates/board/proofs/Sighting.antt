@@ -20,7 +20,12 @@ use Rattle.meaning.proofs.Tests.{or_no, some_append}
 use Rattle.meaning.proofs.Means.{Means, holds, fails, means_lt}
 use Rattle.command.specs.Footprints.{footprint_of, footprints_meet}
 use Rattle.command.specs.Data.{bad_in}
-use Rattle.command.specs.Look.{may_block}
+use Rattle.command.specs.declared.touch.Footprint.{Footprint}
+use Rattle.command.specs.declared.sound.Looked.{Looked}
+use Rattle.command.specs.Look.{may_block, looked_as}
+use Rattle.command.proofs.Data.{looked_by_rooms}
+use Rattle.units.specs.declared.rooms.Rooms.{Rooms}
+use Rattle.units.specs.Rooms.{rooms_of}
 use Rattle.command.proofs.Touching.{no_conflict}
 use Rattle.board.specs.declared.pick.Sight.{Sight}
 use Rattle.board.specs.Sight.{blocking, sight_of}
@@ -109,6 +114,22 @@ module _ (size : ℕ) (d : Drives) (k p : ℕ) (t : List Record) (here : k < len
         bad = (ap (λ (x : Sight). x.bad || bad_in size d r) seen ∙ sym bad_next) j;
         blocked = (ap (λ (x : Sight). x.blocked) seen ∙ sym (far_next e)) j;
       }
+
+  -- and so it is where the record is looked at by rooms that these drives have, and ranges are tested only where the footprints meet:
+  -- f is the footprint of the record at p, x what the look gives, w' whether an earlier one blocks then
+  module _ (m : Rooms) (rooms : m ≡ rooms_of d) (f : Footprint) (foot : f ≡ footprint_of wanted) (x : Looked) (looked : x ≡ looked_as size m r f (ltb k p)) where
+    is-near : x.near ≡ near
+    is-near =
+        ap (λ (y : Looked). y.near) (looked ∙ looked_by_rooms size d m rooms r f (ltb k p)) ∙ ap (λ (g : Footprint). may_block r g (ltb k p)) foot
+
+    is-bad : (b : Bool) → (b || x.bad) ≡ (b || bad_in size d r)
+    is-bad b = ap (λ (y : Looked). b || y.bad) (looked ∙ looked_by_rooms size d m rooms r f (ltb k p))
+
+    pub sees_it_near : x.near ≡ true → (b w w' : Bool) → Seen b w → w' ≡ (w || conflict r wanted) → record { bad = b || x.bad; blocked = w' } ≡ sight_of size d (k + 1) p t
+    sees_it_near e b w w' seen is = (λ j. record { bad = is-bad b j; blocked = is j }) ∙ sees_near (sym is-near ∙ e) b w seen
+
+    pub sees_it_far : x.near ≡ false → (b w w' : Bool) → Seen b w → w' ≡ w → record { bad = b || x.bad; blocked = w' } ≡ sight_of size d (k + 1) p t
+    sees_it_far e b w w' seen is = (λ j. record { bad = is-bad b j; blocked = is j }) ∙ sees_far (sym is-near ∙ e) b w seen
 
 -- nothing is seen at first
 pub sees_none : (size : ℕ) (d : Drives) (p : ℕ) (t : List Record) → record { bad = false; blocked = false } ≡ sight_of size d 0 p t

@@ -33,6 +33,3 @@ module _ (m : List ℕ) (d : Drives) (addresses : List ℕ) (t : List Record) wh
   pub filled_next : (k : ℕ) → k < length addresses → k < length t → set (filled_at m d k addresses t) k (record_at m d (get_or addresses k 0)) ≡ filled_at m d (k + 1) addresses t
   filled_next k h g =
       rw (← get_or-map (record_at m d) addresses k 0) (over_next (record_at m d 0) k (map (record_at m d) addresses) t (omega (arith, long)) g)
-
-  pub length_filled : (n : ℕ) → n ≤ length addresses → n ≤ length t → length (filled_at m d n addresses t) ≡ length t
-  length_filled n h g = length_over n (map (record_at m d) addresses) t (omega (arith, long)) g

@@ -1,6 +1,6 @@
 -- What the board answers to a run whose table was copied out of a lent one, told of the lent table: it is the whole of that run. And a
 -- pick and a run over a table that is too short; and the steps of a chain, which are read off such a copy.
-use mathlib.Core.Path.{◌≡◌, refl, sym, ◌∙◌, ap}
+use mathlib.Core.Path.{◌≡◌, refl, sym, ◌∙◌, ap, subst, subst₂}
 use Prim.Native.Nat.{ℕ, ◌≤◌, ◌<◌, min}
 use native.Mathlib.Omega.{arith}
 use native.Mathlib.Decide.{dec_lt}
@@ -11,6 +11,7 @@ use lib.Seq.{take_all, take-take, take-append-le, length-take-le}
 use Rattle.meaning.specs.Drives.{Drives}
 use Rattle.meaning.specs.declared.Record.{Record}
 use Rattle.meaning.specs.Store.{Store}
+use Rattle.meaning.specs.declared.Ran.{Ran}
 use Rattle.meaning.specs.Each.{sum_of}
 use Rattle.meaning.specs.State.{State, most_commands, state_in}
 use Rattle.meaning.specs.Command.{steps_of}
@@ -64,11 +65,22 @@ module _ (d : Drives) (n : ℕ) (s : Store) (t : List Record) where
     begins_so : Begins (length t) u t
     begins_so = record { as_long = refl; front = λ _. refl }
 
-    pub picks_claim : (ps : List ℕ) → RunTakes d n (by_picks d n ps) (length t) (state_in s u) r s' → RunGives d n (by_picks d n ps) (state_in s t) r.ran (state_in s' (with_steps r t))
-    picks_claim ps takes = picks_face d n (length t) (state_in s u) t (length-take-le most_commands t long) begins_so ps r s' takes
+    -- x is the table that was copied out, w and t' what is answered and left once the steps are laid back
+    module _ (x : List Record) (copied : x ≡ over most_commands t no_records) (w : Ran) (t' : List Record) (laid : (w ≡ r.ran) × (t' ≡ with_steps r t)) where
+      -- what was copied out is the first 32 records
+      sees_front : (go : State → Tally) → RunTakes d n go (length t) (state_in s x) r s' → RunTakes d n go (length t) (state_in s u) r s'
+      sees_front go takes = subst (λ (y : List Record). RunTakes d n go (length t) (state_in s y) r s') (copied ∙ append-nil u) takes
 
-    pub written_claim : (b : ℕ) → RunTakes d n (as_written d n b) (length t) (state_in s u) r s' → RunGives d n (as_written d n b) (state_in s t) r.ran (state_in s' (with_steps r t))
-    written_claim b takes = written_face d n (length t) (state_in s u) t (length-take-le most_commands t long) begins_so b r s' takes
+      told : (go : State → Tally) → RunGives d n go (state_in s t) r.ran (state_in s' (with_steps r t)) → RunGives d n go (state_in s t) w (state_in s' t')
+      told go gives = subst₂ (λ (y : Ran) (z : List Record). RunGives d n go (state_in s t) y (state_in s' z)) (sym laid.0) (sym laid.1) gives
+
+      pub picks_claim : (ps : List ℕ) → RunTakes d n (by_picks d n ps) (length t) (state_in s x) r s' → RunGives d n (by_picks d n ps) (state_in s t) w (state_in s' t')
+      picks_claim ps takes =
+          told (by_picks d n ps) (picks_face d n (length t) (state_in s u) t (length-take-le most_commands t long) begins_so ps r s' (sees_front (by_picks d n ps) takes))
+
+      pub written_claim : (b : ℕ) → RunTakes d n (as_written d n b) (length t) (state_in s x) r s' → RunGives d n (as_written d n b) (state_in s t) w (state_in s' t')
+      written_claim b takes =
+          told (as_written d n b) (written_face d n (length t) (state_in s u) t (length-take-le most_commands t long) begins_so b r s' (sees_front (as_written d n b) takes))
 
 -- ---- the steps of a chain
 

@@ -9,14 +9,12 @@ use mathlib.Core.Bool.{Bool, true, false, cond}
 use mathlib.Core.List.{List, [], ◌∷◌}
 use lib.Dec.{eqb}
 use lib.ListN.{length, take, set, get_or}
-use lib.Seq.{take_all}
 use Rattle.meaning.specs.declared.Record.{Record}
 use Rattle.meaning.specs.State.{most_commands}
 use Rattle.meaning.specs.Command.{no_record}
 use Rattle.board.specs.declared.run.RanTaken.{RanTaken}
 use Rattle.meaning.specs.Step.{with_taken}
 use Rattle.board.specs.Changes.{table_with}
-use Rattle.firmware.specs.Laid.{with_steps}
 pub use Rattle.chain.proofs.Over.{over_next, length_over}
 
 -- the steps of one record more; its other fields are those that it has
@@ -30,11 +28,6 @@ steps_suc (suc k) (n ∷ ns) (r ∷ t) h g = ap (with_taken n r ∷◌) (steps_s
 pub steps_next : (k : ℕ) (ns : List ℕ) (t : List Record) → k < length ns → k < length t
     → let u = table_with (take k ns) t in set u k (with_taken (get_or ns k 0) (get_or u k no_record)) ≡ table_with (take (k + 1) ns) t
 steps_next k ns t h g = rw add-one (steps_suc k ns t h g)
-
-pub length_steps : (ns : List ℕ) (t : List Record) → length (table_with ns t) ≡ length t
-length_steps [] t = refl
-length_steps (n ∷ ns) [] = refl
-length_steps (n ∷ ns) (r ∷ t) = ap suc (length_steps ns t)
 
 -- how many records are laid back: all 32 where the number is 0, and else none
 module _ (r : RanTaken) where
@@ -58,10 +51,3 @@ module _ (r : RanTaken) where
       go : (b : Bool) → k < cond b most_commands 0 → b ≡ true
       go true h' = refl
       go false h' = absurd (not-suc-le-zero h')
-
-  pub steps_all : (t : List Record) → length r.taken ≡ most_commands → table_with (take laid_back r.taken) t ≡ with_steps r t
-  steps_all t long = go none
-    where
-      go : (b : Bool) → table_with (take (cond b most_commands 0) r.taken) t ≡ cond b (table_with r.taken t) t
-      go true = ap (λ (ns : List ℕ). table_with ns t) (take_all most_commands r.taken (omega (arith, long)))
-      go false = refl

@@ -2,7 +2,6 @@
 use mathlib.Core.Path.{sym, ap, ◌∙◌}
 use Prim.Native.Nat.{ℕ}
 use lib.Dec.{ltb}
-use borrow.Author.Tests.{not-false}
 use Rattle.meaning.specs.Place.{placed}
 use Rattle.meaning.proofs.Numbering.{below_count}
 use Rattle.drive.proofs.place_of.Goals as goal
@@ -14,20 +13,16 @@ returns-then-not-maxima_right c = simp (← c.maxima_right.ensures, c.if-not-max
 pub returns-then-above : goal.returns-then-above
 unfolding placed
 returns-then-above c =
-    let k = c in
-    simp (← k.maxima_right.ensures, k.if-not-maxima_right.false-raw, ← c.largest.ensures, ← c.above.ensures, c.if-above.true)
+    simp (← c.maxima_right.ensures, c.if-not-maxima_right.false, ← c.largest.ensures, ← c.above.ensures, c.if-above.true)
 
 pub place_within-requires : goal.place_within-requires
 place_within-requires c =
-    let k = c in
-    let a = k.args in
+    let a = c.args in
     let inside = ap (λ (n : ℕ). ltb n a.sector) (sym c.largest.ensures) ∙ sym c.above.ensures ∙ c.if-above.false in
-    (sym k.maxima_right.ensures ∙ not-false k.maxima_right.result k.if-not-maxima_right.false-raw, below_count a.d a.sector inside)
+    (sym c.maxima_right.ensures ∙ c.if-not-maxima_right.false, below_count a.d a.sector inside)
 
 pub returns : goal.returns
 unfolding placed
 returns c =
-    let e = c in
-    let k = e in
     simp
-    (← k.maxima_right.ensures, k.if-not-maxima_right.false-raw, ← e.largest.ensures, ← e.above.ensures, e.if-above.false, c.place_within.ensures)
+    (← c.maxima_right.ensures, c.if-not-maxima_right.false, ← c.largest.ensures, ← c.above.ensures, c.if-above.false, c.place_within.ensures)

@@ -21,6 +21,5 @@ overflow_add-result-2 c =
 pub returns : goal.returns
 unfolding sector_number
 returns c =
-    let k = c in
-    let a = k.args in
-    ap (λ (n : ℕ). n + a.head * (a.d.sector + 1) + a.sector) (c.of_cylinders.ensures.value ∙ ap (λ (n : ℕ). a.cylinder * n) k.per_cylinder-on_cylinder.ensures.result_value)
+    let a = c.args in
+    ap (λ (n : ℕ). n + a.head * (a.d.sector + 1) + a.sector) (c.of_cylinders.ensures.value ∙ ap (λ (n : ℕ). a.cylinder * n) c.per_cylinder-on_cylinder.ensures.result_value)

@@ -6,31 +6,23 @@ use Rattle.chain.proofs.Verdicts.{passed, stopped}
 use Rattle.chain.proofs.code.early_verdict.Goals as goal
 
 pub returns-then-misaligned : goal.returns-then-misaligned
-returns-then-misaligned c = let a = c in c.fixed.ensures ∙ sym (stopped _ _ (sym a.misaligned.ensures ∙ a.if-misaligned.true))
+returns-then-misaligned c = c.fixed.ensures ∙ sym (stopped _ _ (sym c.misaligned.ensures ∙ c.if-misaligned.true))
 
 pub returns-then-unimplemented : goal.returns-then-unimplemented
 returns-then-unimplemented c =
-    let b = c in
-    let a = b in
     c.fixed-then-unimplemented.ensures
-    ∙ sym (passed _ _ (sym a.misaligned.ensures ∙ a.if-misaligned.false) ∙ stopped _ _ (sym b.unimplemented.ensures ∙ b.if-unimplemented.true))
+    ∙ sym (passed _ _ (sym c.misaligned.ensures ∙ c.if-misaligned.false) ∙ stopped _ _ (sym c.unimplemented.ensures ∙ c.if-unimplemented.true))
 
 pub returns-then-c-eq0 : goal.returns-then-c-eq0
 returns-then-c-eq0 c =
-    let e = c in
-    let b = e in
-    let a = b in
     c.fixed-then-c-eq0.ensures
-    ∙ sym (passed _ _ (sym a.misaligned.ensures ∙ a.if-misaligned.false)
-    ∙ passed _ _ (sym b.unimplemented.ensures ∙ b.if-unimplemented.false)
-    ∙ stopped _ _ (eq-eqb _ _ e.if-c-eq0.true))
+    ∙ sym (passed _ _ (sym c.misaligned.ensures ∙ c.if-misaligned.false)
+    ∙ passed _ _ (sym c.unimplemented.ensures ∙ c.if-unimplemented.false)
+    ∙ stopped _ _ (eq-eqb _ _ c.if-c-eq0.true))
 
 pub returns : goal.returns
 returns c =
-    let e = c in
-    let b = e in
-    let a = b in
     c.transfer_verdict.ensures
-    ∙ sym (passed _ _ (sym a.misaligned.ensures ∙ a.if-misaligned.false)
-    ∙ passed _ _ (sym b.unimplemented.ensures ∙ b.if-unimplemented.false)
-    ∙ passed _ _ (ne_eqb _ _ e.if-c-eq0.false))
+    ∙ sym (passed _ _ (sym c.misaligned.ensures ∙ c.if-misaligned.false)
+    ∙ passed _ _ (sym c.unimplemented.ensures ∙ c.if-unimplemented.false)
+    ∙ passed _ _ (ne_eqb _ _ c.if-c-eq0.false))

@@ -17,6 +17,5 @@ returns-then-n-eq0 c = c.plain_verdict.ensures ∙ sym (stop _ _ _ (eq-eqb _ _ c
 pub returns : goal.returns
 unfolding late_verdict
 returns c =
-    let e = c in
     c.fixed.ensures ∙ ap (λ (k : ℕ). fixed_as k 0) c.list_code.ensures
-    ∙ sym (stop _ _ _ (eq-eqb _ _ e.if-early-ne0.false) ∙ pass _ _ _ (ne_eqb _ _ e.if-n-eq0.false))
+    ∙ sym (stop _ _ _ (eq-eqb _ _ c.if-early-ne0.false) ∙ pass _ _ _ (ne_eqb _ _ c.if-n-eq0.false))

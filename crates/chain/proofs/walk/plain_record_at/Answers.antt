@@ -5,10 +5,6 @@ use Rattle.chain.proofs.walk.plain_record_at.Goals as goal
 
 pub returns : goal.returns
 returns c =
-    let e = c in
-    let f = e in
-    let o = f in
-    let k = o in
-    let a = k.args in
-    plain_made a.memory.now a.at (drives_of a.l) k.copied-c.result o.drive_of-d.result e.early_verdict-early.result f.first_sector-first.result k.no_links-list.result c.final_verdict-verdict.result
-    k.copied-c.ensures o.drive_of-d.ensures e.early_verdict-early.ensures k.no_links-list.ensures f.first_sector-first.ensures c.final_verdict-verdict.ensures
+    let a = c.args in
+    plain_made a.memory.now a.at (drives_of a.l) c.copied-c.result c.drive_of-d.result c.early_verdict-early.result c.first_sector-first.result c.no_links-list.result c.final_verdict-verdict.result
+    c.copied-c.ensures c.drive_of-d.ensures c.early_verdict-early.ensures c.no_links-list.ensures c.first_sector-first.ensures c.final_verdict-verdict.ensures

@@ -8,9 +8,7 @@ use Rattle.chain.proofs.walk.record_at.Goals as goal
 
 pub returns : goal.returns
 returns c =
-    let o = c in
-    let k = o in
-    let a = k.args in
+    let a = c.args in
     c.record_of.ensures
-    ∙ ap (λ (d : Drive). record_of k.copied-c.result a.at d a.memory.now) o.drive_of.ensures
-    ∙ ap (λ (x : Copied). record_of x a.at (drive_of a.l x.unit) a.memory.now) k.copied-c.ensures
+    ∙ ap (λ (d : Drive). record_of c.copied-c.result a.at d a.memory.now) c.drive_of.ensures
+    ∙ ap (λ (x : Copied). record_of x a.at (drive_of a.l x.unit) a.memory.now) c.copied-c.ensures

@@ -12,9 +12,6 @@ links_at-list-requires c = let a = c.args in
 
 pub returns : goal.returns
 returns c =
-    let l = c in
-    let e = l in
-    let f = e in
-    let a = f.args in
-    record_made a.memory.now a.c a.at a.d e.early_verdict-early.result l.links_to_read-ranges.result f.first_sector-first.result l.links_at-list.result c.final_verdict-verdict.result
-    e.early_verdict-early.ensures l.links_to_read-ranges.ensures l.links_at-list.ensures f.first_sector-first.ensures c.final_verdict-verdict.ensures
+    let a = c.args in
+    record_made a.memory.now a.c a.at a.d c.early_verdict-early.result c.links_to_read-ranges.result c.first_sector-first.result c.links_at-list.result c.final_verdict-verdict.result
+    c.early_verdict-early.ensures c.links_to_read-ranges.ensures c.links_at-list.ensures c.first_sector-first.ensures c.final_verdict-verdict.ensures

@@ -12,17 +12,15 @@ use Rattle.chain.proofs.walk.walk.Goals as goal
 
 pub filled-table-requires : goal.filled-table-requires
 filled-table-requires c =
-    let k = c in
-    let a = k.args in
-    let good = k.well_formed.1.1.1.1.1.1 in
+    let a = c.args in
+    let good = c.well_formed.1.1.1.1.1.1 in
     let long : length a.table ≡ 32 = search rules in
-    omega (arith, (found_whole (drives_of a.l) a.start a.memory.now (images a.image0.now a.image1.now a.image2.now a.image3.now) a.table 32 long k.find-f.result k.find-f.ensures).0.1)
+    omega (arith, (found_whole (drives_of a.l) a.start a.memory.now (images a.image0.now a.image1.now a.image2.now a.image3.now) a.table 32 long c.find-f.result c.find-f.ensures).0.1)
 
 pub returns : goal.returns
 returns c =
-    let k = c in
-    let a = k.args in
-    let good = k.well_formed.1.1.1.1.1.1 in
+    let a = c.args in
+    let good = c.well_formed.1.1.1.1.1.1 in
     let long : length a.table ≡ 32 = search rules in
-    subst (WalkGives (drives_of a.l) a.start (state_of a.memory.now (images a.image0.now a.image1.now a.image2.now a.image3.now) a.table) k.find-f.result.walked) (sym c.filled-table.ensures)
-    (found_whole (drives_of a.l) a.start a.memory.now (images a.image0.now a.image1.now a.image2.now a.image3.now) a.table 32 long k.find-f.result k.find-f.ensures).1
+    subst (WalkGives (drives_of a.l) a.start (state_of a.memory.now (images a.image0.now a.image1.now a.image2.now a.image3.now) a.table) c.find-f.result.walked) (sym c.filled-table.ensures)
+    (found_whole (drives_of a.l) a.start a.memory.now (images a.image0.now a.image1.now a.image2.now a.image3.now) a.table 32 long c.find-f.result c.find-f.ensures).1

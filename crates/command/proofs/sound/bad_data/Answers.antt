@@ -16,17 +16,15 @@ use Rattle.command.proofs.sound.bad_data.Goals as goal
 
 pub returns-then-memory-h : goal.returns-then-memory-h
 unfolding bad_data
-returns-then-memory-h c = let k = c in
-    let r = k.args.r in
-    let past = ap (λ (h : Hull). ltb k.args.memory h.high) (sym k.requires.1) ∙ lt-ltb _ _ c.if-memory-h.true in
+returns-then-memory-h c = let r = c.args.r in
+    let past = ap (λ (h : Hull). ltb c.args.memory h.high) (sym c.requires.1) ∙ lt-ltb _ _ c.if-memory-h.true in
     sym (ap (λ (b : Bool). ltb most_links r.ranges || (b || not (eqb (data_hull r).bytes (sector_bytes * r.count)))) past ∙ or-true (ltb most_links r.ranges))
 
 pub returns-then-r-eq0 : goal.returns-then-r-eq0
 unfolding bad_data
-returns-then-r-eq0 c = let k = c in
-    let r = k.args.r in
-    let inside = ap (λ (h : Hull). ltb k.args.memory h.high) (sym k.requires.1) ∙ le-ltb _ _ c.if-memory-h.false in
-    let all = ap (λ (n : ℕ). not (eqb n (sector_bytes * r.count))) (plain_bytes r k.requires.0 c.if-r-eq0.true) ∙ ap not (eq-eqb (sector_bytes * r.count) (sector_bytes * r.count) refl) in
+returns-then-r-eq0 c = let r = c.args.r in
+    let inside = ap (λ (h : Hull). ltb c.args.memory h.high) (sym c.requires.1) ∙ le-ltb _ _ c.if-memory-h.false in
+    let all = ap (λ (n : ℕ). not (eqb n (sector_bytes * r.count))) (plain_bytes r c.requires.0 c.if-r-eq0.true) ∙ ap not (eq-eqb (sector_bytes * r.count) (sector_bytes * r.count) refl) in
     sym (or_second _ _ (ap (ltb most_links) c.if-r-eq0.true) ∙ or_second _ _ inside ∙ all)
 
 pub returns-then-r-gt-MOST_LINKS : goal.returns-then-r-gt-MOST_LINKS
@@ -35,7 +33,6 @@ returns-then-r-gt-MOST_LINKS c = sym (or_first _ _ (lt-ltb _ _ c.if-r-gt-MOST_LI
 
 pub returns : goal.returns
 unfolding bad_data
-returns c = let k = c in
-    let inside = ap (λ (h : Hull). ltb k.args.memory h.high) (sym k.requires.1) ∙ le-ltb _ _ c.if-memory-h.false in
-    ap (λ (h : Hull). not (eqb h.bytes (sector_bytes * k.args.r.count))) k.requires.1
+returns c = let inside = ap (λ (h : Hull). ltb c.args.memory h.high) (sym c.requires.1) ∙ le-ltb _ _ c.if-memory-h.false in
+    ap (λ (h : Hull). not (eqb h.bytes (sector_bytes * c.args.r.count))) c.requires.1
     ∙ sym (or_second _ _ (le-ltb _ _ c.if-r-gt-MOST_LINKS.false) ∙ or_second _ _ inside)

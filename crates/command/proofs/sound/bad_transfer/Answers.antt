@@ -22,24 +22,18 @@ returns-then-bad_data c = sym (or_second _ _ (ne_eqb _ _ c.if-r-eq0.false) ∙ o
 
 pub returns-then-goes_past : goal.returns-then-goes_past
 unfolding bad_move
-returns-then-goes_past c = let e = c in
-    let past = sym c.goes_past.ensures ∙ c.if-goes_past.true in
-    sym (or_second _ _ (ne_eqb _ _ e.if-r-eq0.false) ∙ or_second _ _ (sym e.bad_data.ensures ∙ e.if-bad_data.false) ∙ or_first _ _ past)
+returns-then-goes_past c = let past = sym c.goes_past.ensures ∙ c.if-goes_past.true in
+    sym (or_second _ _ (ne_eqb _ _ c.if-r-eq0.false) ∙ or_second _ _ (sym c.bad_data.ensures ∙ c.if-bad_data.false) ∙ or_first _ _ past)
 
 pub returns-then-room : goal.returns-then-room
 unfolding bad_move
-returns-then-room c = let q = c in
-    let e = q in
-    let start = e in
-    let r = start.args.r in
-    let past = sym q.goes_past.ensures ∙ q.if-goes_past.false in
-    writes_by_command r start.requires.0 ∙ sym (and-true (writes r)) ∙ ap (λ (b : Bool). writes r && b) (sym c.if-room.true)
-    ∙ sym (or_second _ _ (ne_eqb _ _ e.if-r-eq0.false) ∙ or_second _ _ (sym e.bad_data.ensures ∙ e.if-bad_data.false) ∙ or_second _ _ past)
+returns-then-room c = let r = c.args.r in
+    let past = sym c.goes_past.ensures ∙ c.if-goes_past.false in
+    writes_by_command r c.requires.0 ∙ sym (and-true (writes r)) ∙ ap (λ (b : Bool). writes r && b) (sym c.if-room.true)
+    ∙ sym (or_second _ _ (ne_eqb _ _ c.if-r-eq0.false) ∙ or_second _ _ (sym c.bad_data.ensures ∙ c.if-bad_data.false) ∙ or_second _ _ past)
 
 pub returns : goal.returns
 unfolding bad_move
-returns c = let q = c in
-    let e = q in
-    let r = e.args.r in
-    let past = sym q.goes_past.ensures ∙ q.if-goes_past.false in
-    sym (or_second _ _ (ne_eqb _ _ e.if-r-eq0.false) ∙ or_second _ _ (sym e.bad_data.ensures ∙ e.if-bad_data.false) ∙ or_second _ _ past ∙ ap (λ (b : Bool). writes r && b) c.if-room.false ∙ and_no (writes r))
+returns c = let r = c.args.r in
+    let past = sym c.goes_past.ensures ∙ c.if-goes_past.false in
+    sym (or_second _ _ (ne_eqb _ _ c.if-r-eq0.false) ∙ or_second _ _ (sym c.bad_data.ensures ∙ c.if-bad_data.false) ∙ or_second _ _ past ∙ ap (λ (b : Bool). writes r && b) c.if-room.false ∙ and_no (writes r))

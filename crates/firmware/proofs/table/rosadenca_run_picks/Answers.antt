@@ -1,14 +1,10 @@
 -- `firmware::rosadenca_run_picks` meets its contract: a table that is long enough is seen by its first 32 records, and the steps are laid back.
-use mathlib.Core.Path.{sym, ◌∙◌, subst, subst₂}
-use mathlib.Core.List.{List, append-nil}
-use lib.ListN.{length, take}
-use Rattle.meaning.specs.declared.Record.{Record}
+use mathlib.Core.Path.{sym, subst}
 use Rattle.meaning.specs.declared.Ran.{Ran}
 use Rattle.meaning.specs.Drives.{drives_of}
 use Rattle.meaning.specs.Store.{lent, images}
-use Rattle.meaning.specs.State.{most_commands, state_in}
+use Rattle.meaning.specs.State.{state_in}
 use Rattle.meaning.specs.Run.{by_picks, RunGives}
-use Rattle.board.specs.Changes.{RunTakes}
 use Rattle.firmware.proofs.Claims.{short_run, picks_claim}
 use Rattle.firmware.proofs.table.rosadenca_run_picks.Goals as goal
 
@@ -24,12 +20,6 @@ pub returns : goal.returns
 returns c =
     let a = c.args in
     let v = c.picks_taken-r in
-    let d = drives_of a.drives in
     let s = lent a.memory.now (images a.image0.now a.image1.now a.image2.now a.image3.now) in
     let u = lent v.new.memory (images v.new.image0 v.new.image1 v.new.image2 v.new.image3) in
-    let t = a.table.now in
-    let go = by_picks d a.commands a.picks.now in
-    let front = c.load_first-t.ensures ∙ append-nil (take most_commands t) in
-    let takes = subst (λ (x : List Record). RunTakes d a.commands go (length t) (state_in s x) v.result u) front v.ensures in
-    subst₂ (λ (r : Ran) (x : List Record). RunGives d a.commands go (state_in s t) r (state_in u x)) (sym c.put_steps.ensures.0) (sym c.put_steps.ensures.1)
-    (picks_claim d a.commands s t v.result u c.if-length-lt-MOST_COMMANDS.false a.picks.now takes)
+    picks_claim (drives_of a.drives) a.commands s a.table.now v.result u c.if-length-lt-MOST_COMMANDS.false _ c.load_first-t.ensures _ _ c.put_steps.ensures a.picks.now v.ensures

@@ -9,12 +9,12 @@ returns-then-images_wrong c = simp (← c.images_wrong.ensures [], c.if-images_w
 
 pub returns-then-not-d : goal.returns-then-not-d
 unfolding look_number
-returns-then-not-d c = let k = c in simp (← k.images_wrong.ensures [], k.if-images_wrong.false, ← c.drive_of-d.ensures, c.if-not-d.true)
+returns-then-not-d c = simp (← c.images_wrong.ensures [], c.if-images_wrong.false, ← c.drive_of-d.ensures, c.if-not-d.true)
 
 pub returns-then-above : goal.returns-then-above
 unfolding look_number
-returns-then-above c = let k = c in simp (← k.images_wrong.ensures [], k.if-images_wrong.false, ← k.drive_of-d.ensures, k.if-not-d.false, ← c.largest.ensures, ← c.above.ensures, c.if-above.true)
+returns-then-above c = simp (← c.images_wrong.ensures [], c.if-images_wrong.false, ← c.drive_of-d.ensures, c.if-not-d.false, ← c.largest.ensures, ← c.above.ensures, c.if-above.true)
 
 pub returns : goal.returns
 unfolding look_number
-returns c = let k = c in simp (← k.images_wrong.ensures [], k.if-images_wrong.false, ← k.drive_of-d.ensures, k.if-not-d.false, ← c.largest.ensures, ← c.above.ensures, c.if-above.false)
+returns c = simp (← c.images_wrong.ensures [], c.if-images_wrong.false, ← c.drive_of-d.ensures, c.if-not-d.false, ← c.largest.ensures, ← c.above.ensures, c.if-above.false)
