@@ -144,7 +144,7 @@ impl<'a> Reader<'a> {
         Ok(())
     }
 
-    /// What a reply is: terms of definitions, as `sectorNumber d cylinder head sector`.
+    /// What a reply is: terms of definitions, as `sector_number d cylinder head sector`.
     fn reply(&mut self, span: &'a str) -> Found {
         for head in heads(span) {
             let is_plain = head.chars().count() == 1

@@ -12,8 +12,8 @@ use meaning::{LentDrives, Record};
 // The codes of the commands, in front of zeros.
 fn codes_of(table: [Record; 32], commands: usize) -> [u8; 32]
     requires { commands ≤ 32 }
-    ensures result_value { take commands result ≡ codes_of (take commands table) }
-    ensures result_value_2 { drop commands result ≡ replicate (32 - commands) 0 }
+    ensures codes { take commands result ≡ codes_of (take commands table) }
+    ensures rest { drop commands result ≡ replicate (32 - commands) 0 }
 {
     let mut codes = [0u8; 32];
     let mut k = 0;

@@ -43,7 +43,7 @@ fn on_cylinder(d: Drive) -> u32
 
 // The same as a count.
 pub fn per_cylinder(d: Drive) -> Count
-    ensures result_value { result.0 ≡ per_cylinder d }
+    ensures value { result.0 ≡ per_cylinder d }
     ensures within { (1 ≤ result.0) × (result.0 ≤ 65_536) }
 {
     Count(on_cylinder(d) as u64)
@@ -68,7 +68,7 @@ fn together(a: u32, b: u32) -> Count
 
 // How many sectors the drive has: those of the cylinders before the last, and those of the last. Together they are at most 2 to the 32.
 pub fn sectors(d: Drive) -> Count
-    ensures result_value { result.0 ≡ sector_count d }
+    ensures value { result.0 ≡ sector_count d }
     ensures within { (1 ≤ result.0) × (result.0 ≤ 4_294_967_296) }
 {
     let each = on_cylinder(d);

@@ -14,4 +14,4 @@ overflow_mul-result c = omega arith
 
 pub returns : goal.returns
 unfolding image_right
-returns c = simp (le-leb _ _ c.if-bytes-gt-IMAGE_LIMIT.false, c.maxima_right.ensures, c.sectors-count.ensures.result_value)
+returns c = simp (le-leb _ _ c.if-bytes-gt-IMAGE_LIMIT.false, c.maxima_right.ensures, c.sectors-count.ensures.value)

@@ -13,4 +13,4 @@ overflow_cast-result c = omega arith
 
 pub returns : goal.returns
 unfolding largest_sector
-returns c = ap (λ (n : ℕ). n - 1) c.sectors-count.ensures.result_value
+returns c = ap (λ (n : ℕ). n - 1) c.sectors-count.ensures.value

@@ -11,4 +11,4 @@ returns c =
     let each = c.on_cylinder-each in
     let d = c.args.d in
     let sum = ap (λ (n : ℕ). n + each.result) before.ensures.value ∙ ap (λ (n : ℕ). d.cylinder * n + n) each.ensures.value in
-    record { result_value = c.together.ensures ∙ sum ∙ sym (count_by_cylinders d); within = omega (arith, before.ensures.within, each.ensures.within) }
+    record { value = c.together.ensures ∙ sum ∙ sym (count_by_cylinders d); within = omega (arith, before.ensures.within, each.ensures.within) }

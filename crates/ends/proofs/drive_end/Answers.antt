@@ -2,4 +2,4 @@
 use Rattle.ends.proofs.drive_end.Goals as goal
 
 pub returns : goal.returns
-returns c = simp (c.from_on.ensures, c.goes_past.ensures, c.sectors-count.ensures.result_value)
+returns c = simp (c.from_on.ensures, c.goes_past.ensures, c.sectors-count.ensures.value)

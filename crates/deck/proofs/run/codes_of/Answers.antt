@@ -36,6 +36,6 @@ returns c =
     let all : l.k ≡ a.commands = omega arith in
     let told = l.invariant.2 ∙ ap (codes_to a.table) all in
     record {
-      result_value = ap (take a.commands) told ∙ codes_front a.table l.invariant.1 a.commands c.requires;
-      result_value_2 = ap (drop a.commands) told ∙ codes_rest a.table l.invariant.1 a.commands c.requires;
+      codes = ap (take a.commands) told ∙ codes_front a.table l.invariant.1 a.commands c.requires;
+      rest = ap (drop a.commands) told ∙ codes_rest a.table l.invariant.1 a.commands c.requires;
     }

@@ -50,4 +50,4 @@ returns c =
     budget.result run.result.ran _ budget.ensures run.ensures
     in
     reports_ran _ (take w.result.walked.commands w.result.table) w.result.walked.commands run.result.ran.steps
-    c.codes_of.result (few walked c.if-number-ne0.false) c.codes_of.ensures.result_value c.codes_of.ensures.result_value_2 told
+    c.codes_of.result (few walked c.if-number-ne0.false) c.codes_of.ensures.codes c.codes_of.ensures.rest told

@@ -4,7 +4,7 @@ use Rattle.units.proofs.rooms.room_in.Goals as goal
 
 pub returns-then-d : goal.returns-then-d
 unfolding room_in
-returns-then-d c = simp c.if-d.true (λ j. record { sectors = record { 0 = c.sectors.ensures.result_value j }; protected = c.args.d.protected })
+returns-then-d c = simp c.if-d.true (λ j. record { sectors = record { 0 = c.sectors.ensures.value j }; protected = c.args.d.protected })
 
 pub returns : goal.returns
 unfolding room_in
