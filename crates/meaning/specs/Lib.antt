@@ -36,3 +36,5 @@ pub mod Scatter
 pub mod Widths
 pub mod Fitted
 pub mod Units
+pub mod Refusals
+pub mod Lends

@@ -2,6 +2,9 @@
 // words). Nothing here runs. The crates above prove their code equal to these definitions.
 #![tactic(auto)]
 
+pub mod lends;
+pub mod refusals;
+
 // The largest number of a kind, counted from zero.
 #[derive(Clone, Copy)]
 pub struct Maximum(pub u32);
@@ -13,7 +16,7 @@ pub struct Count(pub u64);
 // A drive: its maximum cylinder, head and sector, and the maximum sector of its last head, each counted from zero; its write-protect mark;
 // and whether it is there at all.
 #[repr(C)]
-#[derive(Clone, Copy)]
+#[derive(Clone, Copy, Default)]
 pub struct Drive {
     pub cylinder: u16,
     pub head: u8,
@@ -26,14 +29,14 @@ pub struct Drive {
 
 // The drives as a caller lends them: one for each of the units 0 to 3, there or absent.
 #[repr(C)]
-#[derive(Clone, Copy)]
+#[derive(Clone, Copy, Default)]
 pub struct LentDrives {
     pub units: [Drive; 4],
 }
 
 // A place on a drive.
 #[repr(C)]
-#[derive(Clone, Copy)]
+#[derive(Clone, Copy, Default)]
 pub struct Place {
     pub cylinder: u16,
     pub head: u8,
@@ -77,7 +80,7 @@ pub struct End {
 // One element of a link list: a range of memory, by where it begins and how many bytes it has. It fills its eight bytes, so that a table
 // has no byte that is left unset, and is copied and filled as plain bytes.
 #[repr(C)]
-#[derive(Clone, Copy)]
+#[derive(Clone, Copy, Default)]
 pub struct Link {
     pub address: u32,
     pub length: u16,
@@ -87,7 +90,7 @@ pub struct Link {
 
 // One accepted command. It holds what cannot be worked out again; its kind, its steps and what it touches follow from these.
 #[repr(C)]
-#[derive(Clone, Copy)]
+#[derive(Clone, Copy, Default)]
 pub struct Record {
     // where its IOPB is
     pub iopb: u32,
@@ -130,22 +133,10 @@ pub struct Ran {
     pub finished: bool,
 }
 
-// The same answers, and a pick's number, with the table that goes in and comes back by value.
+// What a call answers, with the table that went in and comes back by value.
 #[derive(Drop)]
-pub struct WalkedTable {
-    pub walked: Walked,
-    pub table: [Record; 32],
-}
-
-#[derive(Drop)]
-pub struct PickedTable {
-    pub number: u8,
-    pub table: [Record; 32],
-}
-
-#[derive(Drop)]
-pub struct RanTable {
-    pub ran: Ran,
+pub struct WithTable<A> {
+    pub answer: A,
     pub table: [Record; 32],
 }
 
