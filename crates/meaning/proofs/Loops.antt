@@ -9,6 +9,7 @@ use mathlib.Core.Bool.{Bool, true, false, ◌&&◌, ◌||◌}
 use mathlib.Core.List.{List, [], ◌∷◌}
 use lib.ListN.{length, get_or, take, drop, drop_of_length-le}
 use lib.Seq.{drop-cons, get_or-take, length-take-le}
+use Rattle.std.specs.List.{fold, sum_by}
 use Rattle.meaning.specs.Each.{some_of, every_of, sum_of}
 use Rattle.meaning.proofs.Rows.{or-false}
 
@@ -54,3 +55,11 @@ none_at d p (x ∷ xs) zero k e h i = absurd (not-suc-le-zero h)
 none_at d p (x ∷ xs) (suc n) zero e h i = (or-false (p x) (some_of p (take n xs)) e).0
 none_at d p (x ∷ xs) (suc n) (suc k) e h i =
     none_at d p xs n k (or-false (p x) (some_of p (take n xs)) e).1 (le_of_suc-le-suc h) (le_of_suc-le-suc i)
+
+-- the library's sum of a number of each, as `Iterator::sum` gives it, is `sum_of`
+sum_from : {A : Type 0} (f : A → ℕ) (n : ℕ) (l : List A) → fold (λ a x. a + f x) n l ≡ n + sum_of f l
+sum_from f n [] = omega arith
+sum_from f n (x ∷ l) = let e = sum_from f (n + f x) l in omega arith
+
+pub sum_is : {A : Type 0} (f : A → ℕ) (l : List A) → sum_by f l ≡ sum_of f l
+sum_is f l = let e = sum_from f 0 l in omega arith

@@ -1,17 +1,15 @@
 -- A test put to each element of a list: `some_of` where one passes, `every_of` where all do; the sum of a number of each; and
 -- the numbers below a number, to go through places by.
--- mathlib's `any` and `all` are shut outside their own module, and these have to compute.
---
-use Rattle.std.specs.Prelude.{ℕ, zero, suc, ◌+◌, Bool, true, false, ◌&&◌, ◌||◌, List, [], ◌∷◌, ◌++◌}
+-- The first two are the library's own, so that a chain of iterators is read as they are.
+use Rattle.std.specs.Prelude.{ℕ, zero, suc, ◌+◌, Bool, List, [], ◌∷◌, ◌++◌}
+use Rattle.std.specs.List.{list_any, list_all}
 
 module _ {A : Type 0} where
   abbrev pub some_of : (A → Bool) → List A → Bool
-  some_of p [] = false
-  some_of p (x ∷ xs) = p x || some_of p xs
+  some_of p xs = list_any p xs
 
   abbrev pub every_of : (A → Bool) → List A → Bool
-  every_of p [] = true
-  every_of p (x ∷ xs) = p x && every_of p xs
+  every_of p xs = list_all p xs
 
   abbrev pub sum_of : (A → ℕ) → List A → ℕ
   sum_of f [] = 0
