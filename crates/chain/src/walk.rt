@@ -3,7 +3,7 @@
 ghost use Rattle.std.specs.Prelude.{◌≡◌, [], ◌+◌, ◌≤◌, max};
 ghost use Rattle.meaning.specs.Each.{some_of};
 ghost use Rattle.meaning.specs.Fields.{iopb_bytes};
-ghost use Rattle.meaning.specs.Store.{images};
+ghost use Rattle.meaning.specs.Lends.{images_of};
 ghost use Rattle.meaning.specs.Drives.{Drives, drives_of};
 ghost use Rattle.meaning.specs.State.{most_commands, state_of};
 ghost use Rattle.meaning.specs.Walk.{Chain, record_of, goes_on, shares, follow, WalkGives};
@@ -12,7 +12,8 @@ ghost use Rattle.chain.specs.Records.{record_at, plain_record_at, filled_at};
 ghost use Rattle.chain.specs.Past.{AllEnd};
 
 use crate::{code, links, ranges, sizes};
-use meaning::{Copied, Drive, LentDrives, Record, Walked, WalkedTable};
+use meaning::lends::LentDisks;
+use meaning::{Copied, Drive, LentDrives, Record, Walked, WithTable};
 
 // The most commands that a chain may have.
 pub const MOST_COMMANDS: usize = 32;
@@ -143,22 +144,13 @@ fn follow_chain(memory: &[u8], start: u32) -> Found
 
 // What the walk answers with a table of so many records, and where the IOPBs of its commands are: 1, 2, then at each IOPB in turn 5, 3, 4.
 // No record is made yet, so that a caller can fill its table where it lies, and leaves it alone on a refusal.
-pub fn find(
-    memory: &[u8],
-    image0: &[u8],
-    image1: &[u8],
-    image2: &[u8],
-    image3: &[u8],
-    l: LentDrives,
-    start: u32,
-    records: usize,
-) -> Found
-    ensures { result ≡ found_of (chain_for (drives_of l) start records memory.now (images image0.now image1.now image2.now image3.now)) }
+pub fn find(memory: &[u8], disks: LentDisks<'_>, start: u32, records: usize) -> Found
+    ensures { result ≡ found_of (chain_for (drives_of disks.entry.drives) start records memory.now (images_of disks.entry)) }
 {
     if records < MOST_COMMANDS {
         return nothing_found(1);
     }
-    if sizes::sizes_wrong(memory, image0, image1, image2, image3, l) {
+    if sizes::sizes_wrong(memory, disks) {
         return nothing_found(1);
     }
     if start % 2 == 1 {
@@ -224,28 +216,15 @@ fn filled(
 // The walk: on 0 the table is filled, on a refusal nothing is changed.
 pub fn walk(
     memory: &[u8],
-    image0: &[u8],
-    image1: &[u8],
-    image2: &[u8],
-    image3: &[u8],
-    l: LentDrives,
+    disks: LentDisks<'_>,
     start: u32,
     table: [Record; 32],
-) -> WalkedTable
-    ensures { WalkGives (drives_of l) start (state_of memory.now (images image0.now image1.now image2.now image3.now) table) result.walked result.table }
+) -> WithTable<Walked>
+    ensures { WalkGives (drives_of disks.entry.drives) start (state_of memory.now (images_of disks.entry) table) result.answer result.table }
 {
-    let f = find(
-        memory,
-        image0,
-        image1,
-        image2,
-        image3,
-        l,
-        start,
-        MOST_COMMANDS,
-    );
-    let walked = f.walked;
+    let f = find(memory, disks, start, MOST_COMMANDS);
+    let answer = f.walked;
     let addresses = f.addresses;
-    let table = filled(memory, l, addresses, walked.commands, table);
-    WalkedTable { walked, table }
+    let table = filled(memory, disks.drives, addresses, answer.commands, table);
+    WithTable { answer, table }
 }

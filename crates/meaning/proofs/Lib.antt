@@ -23,4 +23,5 @@ pub mod Numbers
 pub mod Counts
 pub mod Still
 pub mod Lent
+pub mod Told
 pub mod Walks

@@ -6,11 +6,13 @@ pub mod look;
 pub mod rooms;
 
 ghost use Rattle.std.specs.Prelude.{◌≡◌, not, ◌&&◌, List, ℕ};
-ghost use Rattle.meaning.specs.Store.{lent, images};
+ghost use Rattle.meaning.specs.Store.{lent};
+ghost use Rattle.meaning.specs.Lends.{images_of};
 ghost use Rattle.meaning.specs.Sectors.{image_right};
 ghost use Rattle.meaning.specs.Drives as drives;
 ghost use Rattle.meaning.specs.Sizes.{images_wrong};
 
+use meaning::lends::LentDisks;
 use meaning::{Drive, LentDrives};
 
 // What an absent unit counts as: all maxima 0, and open.
@@ -66,23 +68,18 @@ fn unit_wrong(l: LentDrives, unit: u8, bytes: u64) -> bool
 }
 
 // Some unit is such a one. Memory has no say in it.
-pub fn images_wrong(
-    image0: &[u8],
-    image1: &[u8],
-    image2: &[u8],
-    image3: &[u8],
-    l: LentDrives,
-) -> bool
-    ensures { (m : List ℕ) → result ≡ images_wrong (drives.drives_of l) (lent m (images image0.now image1.now image2.now image3.now)) }
+pub fn images_wrong(disks: LentDisks<'_>) -> bool
+    ensures { (m : List ℕ) → result ≡ images_wrong (drives.drives_of disks.entry.drives) (lent m (images_of disks.entry)) }
 {
-    if unit_wrong(l, 0, image0.len() as u64) {
+    let drives = disks.drives;
+    if unit_wrong(drives, 0, disks.image0.len() as u64) {
         return true;
     }
-    if unit_wrong(l, 1, image1.len() as u64) {
+    if unit_wrong(drives, 1, disks.image1.len() as u64) {
         return true;
     }
-    if unit_wrong(l, 2, image2.len() as u64) {
+    if unit_wrong(drives, 2, disks.image2.len() as u64) {
         return true;
     }
-    unit_wrong(l, 3, image3.len() as u64)
+    unit_wrong(drives, 3, disks.image3.len() as u64)
 }

@@ -1,7 +1,7 @@
 -- `chain::walk::find` meets its contract: 1 and 2 are decided by its tests, and the rest by `follow_chain`.
 use mathlib.Core.Path.{sym, ap, ◌∙◌}
 use native.Mathlib.Omega.{arith}
-use Rattle.meaning.specs.Store.{images}
+use Rattle.meaning.specs.Lends.{images_of}
 use Rattle.meaning.specs.Drives.{drives_of}
 use borrow.Author.Tests.{eq-eqb, ne_eqb}
 use Rattle.chain.specs.Found.{found_of}
@@ -11,21 +11,21 @@ use Rattle.chain.proofs.walk.find.Goals as goal
 pub returns-then-records-lt-MOST_COMMANDS : goal.returns-then-records-lt-MOST_COMMANDS
 returns-then-records-lt-MOST_COMMANDS c =
     let a = c.args in
-    c.nothing_found.ensures ∙ ap found_of (sym (for_short (drives_of a.l) a.start a.records a.memory.now (images a.image0.now a.image1.now a.image2.now a.image3.now) (omega (arith, c.if-records-lt-MOST_COMMANDS.true))))
+    c.nothing_found.ensures ∙ ap found_of (sym (for_short (drives_of a.disks.drives) a.start a.records a.memory.now (images_of a.disks) (omega (arith, c.if-records-lt-MOST_COMMANDS.true))))
 
 pub returns-then-sizes_wrong : goal.returns-then-sizes_wrong
 returns-then-sizes_wrong c =
     let a = c.args in
-    c.nothing_found-then-sizes_wrong.ensures ∙ ap found_of (sym (for_wrong (drives_of a.l) a.start a.records a.memory.now (images a.image0.now a.image1.now a.image2.now a.image3.now) (sym c.sizes_wrong.ensures ∙ c.if-sizes_wrong.true)))
+    c.nothing_found-then-sizes_wrong.ensures ∙ ap found_of (sym (for_wrong (drives_of a.disks.drives) a.start a.records a.memory.now (images_of a.disks) (sym c.sizes_wrong.ensures ∙ c.if-sizes_wrong.true)))
 
 pub returns-then-start-eq1 : goal.returns-then-start-eq1
 returns-then-start-eq1 c =
     let a = c.args in
-    c.nothing_found-then-start-eq1.ensures ∙ ap found_of (sym (for_odd (drives_of a.l) a.start a.records a.memory.now (images a.image0.now a.image1.now a.image2.now a.image3.now) c.if-records-lt-MOST_COMMANDS.false
+    c.nothing_found-then-start-eq1.ensures ∙ ap found_of (sym (for_odd (drives_of a.disks.drives) a.start a.records a.memory.now (images_of a.disks) c.if-records-lt-MOST_COMMANDS.false
     (sym c.sizes_wrong.ensures ∙ c.if-sizes_wrong.false) (eq-eqb _ _ c.if-start-eq1.true)))
 
 pub returns : goal.returns
 returns c =
     let a = c.args in
-    c.follow_chain.ensures (drives_of a.l) ∙ ap found_of (sym (for_chain (drives_of a.l) a.start a.records a.memory.now (images a.image0.now a.image1.now a.image2.now a.image3.now) c.if-records-lt-MOST_COMMANDS.false
+    c.follow_chain.ensures (drives_of a.disks.drives) ∙ ap found_of (sym (for_chain (drives_of a.disks.drives) a.start a.records a.memory.now (images_of a.disks) c.if-records-lt-MOST_COMMANDS.false
     (sym c.sizes_wrong.ensures ∙ c.if-sizes_wrong.false) (ne_eqb _ _ c.if-start-eq1.false)))

@@ -3,7 +3,7 @@ use mathlib.Core.Path.{◌≡◌, sym, subst}
 use native.Mathlib.Omega.{arith}
 use lib.ListN.{length}
 use borrow.Author.Rules.{rules}
-use Rattle.meaning.specs.Store.{images}
+use Rattle.meaning.specs.Lends.{images_of}
 use Rattle.meaning.specs.Drives.{drives_of}
 use Rattle.meaning.specs.State.{state_of}
 use Rattle.meaning.specs.Walk.{WalkGives}
@@ -13,14 +13,14 @@ use Rattle.chain.proofs.walk.walk.Goals as goal
 pub filled-table-requires : goal.filled-table-requires
 filled-table-requires c =
     let a = c.args in
-    let good = c.well_formed.1.1.1.1.1.1 in
+    let good = c.well_formed.1.1.1.1 in
     let long : length a.table ≡ 32 = search rules in
-    omega (arith, (found_whole (drives_of a.l) a.start a.memory.now (images a.image0.now a.image1.now a.image2.now a.image3.now) a.table 32 long c.find-f.result c.find-f.ensures).0.1)
+    omega (arith, (found_whole (drives_of a.disks.drives) a.start a.memory.now (images_of a.disks) a.table 32 long c.find-f.result c.find-f.ensures).0.1)
 
 pub returns : goal.returns
 returns c =
     let a = c.args in
-    let good = c.well_formed.1.1.1.1.1.1 in
+    let good = c.well_formed.1.1.1.1 in
     let long : length a.table ≡ 32 = search rules in
-    subst (WalkGives (drives_of a.l) a.start (state_of a.memory.now (images a.image0.now a.image1.now a.image2.now a.image3.now) a.table) c.find-f.result.walked) (sym c.filled-table.ensures)
-    (found_whole (drives_of a.l) a.start a.memory.now (images a.image0.now a.image1.now a.image2.now a.image3.now) a.table 32 long c.find-f.result c.find-f.ensures).1
+    subst (WalkGives (drives_of a.disks.drives) a.start (state_of a.memory.now (images_of a.disks) a.table) c.find-f.result.walked) (sym c.filled-table.ensures)
+    (found_whole (drives_of a.disks.drives) a.start a.memory.now (images_of a.disks) a.table 32 long c.find-f.result c.find-f.ensures).1
