@@ -9,6 +9,7 @@ use mathlib.Core.Bool.{Bool, true, false, not, ◌&&◌, or_assoc, true≢false}
 use mathlib.Core.List.{List, [], ◌∷◌}
 use lib.ListN.{length}
 use lib.Dec.{leb, eqb}
+use Rattle.std.proofs.lemmas.Bool.{not-false, not-true}
 use Rattle.meaning.specs.declared.Drive.{Drive}
 use Rattle.meaning.specs.declared.Record.{Record}
 use Rattle.meaning.specs.Store.{memory, disk, Store}
@@ -25,7 +26,6 @@ use Rattle.meaning.specs.Command.{reads, writes, transfers, steps_of, finished, 
 use Rattle.meaning.specs.Pick.{bad_transfer, bad_record, spoiled}
 use Rattle.meaning.specs.Conditions.{MaximaWrong, ImageWrong, Present, Absent, ImagesWrong, StoreWrong, SizesWrong, Reads, Writes, Finished, SomeOf, Outside, BadTransfer, BadRecord, Spoiled}
 use Rattle.meaning.proofs.Means.{Means, holds, fails, when_true, when_false, is_false, means_test, means_below, means_itself, means_and, means_or, means_or₃, means_not-and, means_above, means_other, means_lt, means_le, means_eq, means_of, means_some}
-use Rattle.meaning.proofs.Rows.{not-false, not-true}
 use Rattle.meaning.proofs.All.{All}
 
 -- ---- sizes

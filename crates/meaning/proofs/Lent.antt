@@ -5,13 +5,10 @@ use Prim.Native.Nat.{ℕ, zero, suc}
 use native.Mathlib.Omega.{arith}
 use mathlib.Core.List.{List, [], ◌∷◌}
 use lib.ListN.{length}
+use Rattle.std.proofs.lemmas.List.{nil_from_length}
 use Rattle.meaning.specs.Store.{Space, memory, disk, Store, lent, images}
 use Rattle.meaning.specs.State.{State, state_of}
 use Rattle.meaning.proofs.Spaces.{AsLong}
-
-no_length : {A : Type 0} (l : List A) → length l ≡ 0 → l ≡ []
-no_length [] e = refl
-no_length (x ∷ l) e = absurd (omega arith)
 
 -- the four images of a store
 abbrev pub images_in : Store → List (List ℕ)
@@ -27,7 +24,7 @@ module _ (m i₀ i₁ i₂ i₃ : List ℕ) where
       go (disk (suc zero)) = refl
       go (disk (suc (suc zero))) = refl
       go (disk (suc (suc (suc zero)))) = refl
-      go (disk (suc (suc (suc (suc u))))) = let p = disk (suc (suc (suc (suc u)))) in sym (no_length (s p) (h p))
+      go (disk (suc (suc (suc (suc u))))) = let p = disk (suc (suc (suc (suc u)))) in sym (nil_from_length (s p) (h p))
 
   -- so a state after a call is the one of the memory, images and table that the call leaves
   pub state_again : (s : State) → AsLong s.store (lent m (images i₀ i₁ i₂ i₃)) → state_of (s.store memory) (images_in s.store) s.table ≡ s

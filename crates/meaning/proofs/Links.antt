@@ -12,11 +12,12 @@ use lib.ListN.{length, get_or, set, take, drop, length-append, length-map}
 use lib.Seq.{take-append_seam, take_all, drop-cons, set_at}
 use lib.Dec.{eqb, lit≤}
 use borrow.Author.Tests.{ne_eqb}
+use Rattle.std.proofs.lemmas.Bool.{or_left}
 use Rattle.meaning.specs.declared.Copied.{Copied}
 use Rattle.meaning.specs.declared.Link.{Link}
 use Rattle.meaning.specs.Each.{some_of, up_to}
 use Rattle.meaning.specs.Links.{link_bytes, most_links, link_at, links_at, no_link, no_links, padded}
-use Rattle.meaning.proofs.Rows.{or_first, or_second}
+use Rattle.meaning.proofs.Rows.{or_second}
 use Rattle.meaning.proofs.Means.{Means, holds, fails, means_eq}
 use Rattle.meaning.proofs.Loops.{left_at, left_none}
 use Rattle.meaning.specs.Code.{gathers, links_field, link_count, links_in, list_outside}
@@ -121,7 +122,7 @@ module _ (p : Link → Bool) (n : ℕ) (list : List Link) where
 
   module _ (last k : ℕ) (s : Sought last k) where
     pub sought_hit : k < last → p (get_or list k no_link) ≡ true → some_of p (take n list) ≡ true
-    sought_hit h e = s.rest ∙ ap (some_of p) (next_link n list last k s.going h) ∙ or_first (p (get_or list k no_link)) (some_of p (drop (k + 1) (take last list))) e
+    sought_hit h e = s.rest ∙ ap (some_of p) (next_link n list last k s.going h) ∙ or_left (p (get_or list k no_link)) (some_of p (drop (k + 1) (take last list))) e
 
     pub sought_miss : k < last → p (get_or list k no_link) ≡ false → Sought last (k + 1)
     sought_miss h e =

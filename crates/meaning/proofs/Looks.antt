@@ -3,42 +3,50 @@ use mathlib.Core.Path.{◌≡◌, refl}
 use Prim.Native.Nat.{ℕ, zero, suc, ◌+◌, ◌≤◌, ◌<◌}
 use native.Mathlib.Omega.{arith}
 use mathlib.Core.Bool.{Bool, true, false, not, cond}
-use mathlib.Core.List.{List, []}
+use mathlib.Core.List.{List, [], ◌∷◌}
 use lib.ListN.{length, get_or, take, drop}
 use lib.Dec.{ltb, eqb}
 use borrow.Author.Tests.{ltb-false, eq-eqb, ne_eqb}
+use Rattle.std.proofs.lemmas.Bool.{not-false, cond-false, cond-true}
 use Rattle.meaning.specs.Drives.{Drives, most_units}
 use Rattle.meaning.specs.Store.{disk, Store, lent, images, get}
 use Rattle.meaning.specs.Sectors.{largest_sector, on_disk}
 use Rattle.meaning.specs.Sizes.{images_wrong}
+use Rattle.meaning.specs.First.{Row, ◌↝◌}
 use Rattle.meaning.specs.declared.Part.{Part}
 use Rattle.meaning.specs.Look.{look_number, look_part, looked_part, image_of}
 use Rattle.meaning.specs.Conditions.{Present}
-use Rattle.meaning.proofs.Rows.{row_passed, not-false, pass, stop}
+use Rattle.meaning.proofs.All.{All}
+use Rattle.meaning.proofs.Numbers.{Off, rows_off}
 use Rattle.meaning.proofs.Conditions.{present_below, image_size, some_sector}
 
 module _ (d : Drives) (u n : ℕ) (s : Store) where
-  pub look_within : look_number d u n s ≡ 0 → let x = on_disk u n in x.from + x.many ≤ length (s (disk u))
-  unfolding look_number largest_sector
-  look_within e =
-      let right = row_passed (images_wrong d s) 0 _ e in
-      let here = row_passed (not (d.on u).present) 10 _ right.1 in
-      let below = ltb-false (largest_sector (d.on u)) n (row_passed (ltb (largest_sector (d.on u)) n) 9 _ here.1).0 in
-      let size = image_size d s right.0 u (not-false (d.on u).present here.0) in
-      omega (arith, some_sector (d.on u))
+  abbrev rows : List Row
+  rows = images_wrong d s ↝ 1 ∷ not (d.on u).present ↝ 11 ∷ ltb (largest_sector (d.on u)) n ↝ 10 ∷ []
+
+  rows_passed : look_number d u n s ≡ 0 → All Off rows
+  unfolding look_number
+  rows_passed e = rows_off rows 0 e refl
 
   pub look_present : look_number d u n s ≡ 0 → Present d u
-  unfolding look_number
-  look_present e = not-false (d.on u).present (row_passed (not (d.on u).present) 10 _ (row_passed (images_wrong d s) 0 _ e).1).0
+  look_present e = not-false (d.on u).present (rows_passed e).1.0
+
+  pub look_within : look_number d u n s ≡ 0 → let x = on_disk u n in x.from + x.many ≤ length (s (disk u))
+  unfolding largest_sector
+  look_within e =
+      let off = rows_passed e in
+      let below = ltb-false (largest_sector (d.on u)) n off.1.1.0 in
+      let size = image_size d s off.0 u (look_present e) in
+      omega (arith, some_sector (d.on u))
 
   -- the two cases of the part that is handed back
   pub part_refused : (look_number d u n s ≡ 0 → ⊥) → looked_part d u n s ≡ record { at = 0; length = 0 }
   unfolding looked_part
-  part_refused h = pass _ _ _ (ne_eqb _ _ h)
+  part_refused h = cond-false _ _ _ (ne_eqb _ _ h)
 
   pub part_accepted : look_number d u n s ≡ 0 → let x = on_disk u n in looked_part d u n s ≡ record { at = x.from; length = x.many }
   unfolding looked_part
-  part_accepted e = stop _ _ _ (eq-eqb _ _ e)
+  part_accepted e = cond-true _ _ _ (eq-eqb _ _ e)
 
   -- the bytes of the part are those of the look
   pub looked_is_look : let p = looked_part d u n s in take p.length (drop p.at (s (disk u))) ≡ look_part d u n s

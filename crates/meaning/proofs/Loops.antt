@@ -1,17 +1,19 @@
 -- What a loop through a list asks of `some_of`, `every_of` and `sum_of`: at place k, and past the last place. Each is stated of the
 -- first n of a list, which is how a table holds its commands; `l` itself is its first `length l`.
-use mathlib.Core.Path.{◌≡◌, ap, ◌∙◌}
+use mathlib.Core.Path.{◌≡◌, refl, ap, ◌∙◌}
 use Prim.Native.Nat.{ℕ, zero, suc, ◌+◌, ◌≤◌, ◌<◌}
 use native.Mathlib.Nat.{not-suc-le-zero, le_of_suc-le-suc}
 use native.Mathlib.Numerals.{add-one}
 use native.Mathlib.Omega.{arith}
 use mathlib.Core.Bool.{Bool, true, false, ◌&&◌, ◌||◌}
 use mathlib.Core.List.{List, [], ◌∷◌}
-use lib.ListN.{length, get_or, take, drop, drop_of_length-le}
+use lib.ListN.{length, get_or, take, drop, drop_of_length-le, length-take}
 use lib.Seq.{drop-cons, get_or-take, length-take-le}
-use Rattle.std.specs.List.{fold, sum_by}
+use Rattle.std.specs.List.{sum_by}
+use Rattle.std.proofs.lemmas.Bool.{both_ways, false_from_ne_true}
+use Rattle.std.proofs.lemmas.List.Folds.{list_any_at}
+use Rattle.std.proofs.lemmas.List.Sums.{sum_by-cons}
 use Rattle.meaning.specs.Each.{some_of, every_of, sum_of}
-use Rattle.meaning.proofs.Rows.{or-false}
 
 module _ {A : Type 0} (d : A) (l : List A) (n : ℕ) (short : n ≤ length l) where
   -- what is left of the first n at place k
@@ -50,16 +52,11 @@ module _ {A : Type 0} (d : A) (l : List A) (n : ℕ) (short : n ≤ length l) wh
 
 -- none of the first n passes the test: the one at k does not
 pub none_at : {A : Type 0} (d : A) (p : A → Bool) (l : List A) (n k : ℕ) → some_of p (take n l) ≡ false → k < n → k < length l → p (get_or l k d) ≡ false
-none_at d p [] n k e h i = absurd (not-suc-le-zero i)
-none_at d p (x ∷ xs) zero k e h i = absurd (not-suc-le-zero h)
-none_at d p (x ∷ xs) (suc n) zero e h i = (or-false (p x) (some_of p (take n xs)) e).0
-none_at d p (x ∷ xs) (suc n) (suc k) e h i =
-    none_at d p xs n k (or-false (p x) (some_of p (take n xs)) e).1 (le_of_suc-le-suc h) (le_of_suc-le-suc i)
+none_at d p l n k e h i =
+    false_from_ne_true (p (get_or l k d))
+    (λ t. both_ways (some_of p (take n l)) e (list_any_at p (take n l) k d (simp length-take (omega arith)) (rw (get_or-take n l k d h) t)))
 
 -- the library's sum of a number of each, as `Iterator::sum` gives it, is `sum_of`
-sum_from : {A : Type 0} (f : A → ℕ) (n : ℕ) (l : List A) → fold (λ a x. a + f x) n l ≡ n + sum_of f l
-sum_from f n [] = omega arith
-sum_from f n (x ∷ l) = let e = sum_from f (n + f x) l in omega arith
-
 pub sum_is : {A : Type 0} (f : A → ℕ) (l : List A) → sum_by f l ≡ sum_of f l
-sum_is f l = let e = sum_from f 0 l in omega arith
+sum_is f [] = refl
+sum_is f (x ∷ l) = sum_by-cons f x l ∙ ap (λ (k : ℕ). f x + k) (sum_is f l)

@@ -4,15 +4,15 @@ use mathlib.Core.Path.{◌≡◌, refl, sym, subst, ◌∙◌}
 use mathlib.Core.Logic.{◌↔◌, ◌≢◌, ◌⊎◌, inl, inr}
 use Prim.Native.Nat.{ℕ, zero, suc, ◌≤◌, ◌<◌, suc-le-suc}
 use native.Mathlib.Nat.{not-suc-le-zero, le_of_suc-le-suc}
-use mathlib.Core.Bool.{Bool, true, false, not, ◌&&◌, ◌||◌, or_assoc, true≢false, false≢true}
+use mathlib.Core.Bool.{Bool, true, false, not, ◌&&◌, ◌||◌, or_assoc, true≢false, false≢true, or-false}
 use mathlib.Core.List.{List, [], ◌∷◌}
 use native.Mathlib.Omega.{arith}
 use lib.ListN.{length, get_or, take}
 use lib.Dec.{ltb, leb, eqb}
 use borrow.Author.Tests.{ltb-true, ltb-false, leb-true, leb-false, eqb-true, eqb-false}
+use Rattle.std.proofs.lemmas.List.Folds.{list_any-append}
 use Rattle.meaning.specs.Each.{some_of, up_to}
 use Rattle.meaning.specs.Conditions.{SomeOf}
-use Rattle.meaning.proofs.Tests.{some_append, or_no}
 
 pub data Means (P : Type 0) : Bool → Type 0 where
   holds : P → Means P true
@@ -144,4 +144,4 @@ module _ {P : ℕ → Type 0} {p : ℕ → Bool} (means : (k : ℕ) → Means (P
 
   pub means_below : (n : ℕ) → Means (Below n) (some_of p (up_to n))
   means_below zero = fails (λ b. not-suc-le-zero b.1)
-  means_below (suc n) = rw (some_append p (up_to n) (n ∷ []), or_no (p n)) (means_iff (below_more n) (means_or (means_below n) (means n)))
+  means_below (suc n) = rw (list_any-append p (up_to n) (n ∷ []), or-false (p n)) (means_iff (below_more n) (means_or (means_below n) (means n)))

@@ -9,11 +9,11 @@ use mathlib.Core.Bool.{Bool, true, false, cond}
 use mathlib.Core.Option.{Option, some, none}
 use lib.Dec.{eqb, ltb}
 use borrow.Author.Tests.{eq-eqb, ne_eqb, leb-true, ltb-true, ltb-false}
+use Rattle.std.proofs.lemmas.Bool.{cond-false, cond-true}
 use Rattle.meaning.specs.declared.Drive.{Drive}
 use Rattle.meaning.specs.declared.Place.{Place}
 use Rattle.meaning.specs.Sectors.{count_of, per_track, per_last_track, maximum_on, per_cylinder, sector_count, largest_sector, sector_number, maxima_right}
 use Rattle.meaning.specs.Place.{place_at, OnDrive, number_of, place_after, Follows, place_of}
-use Rattle.meaning.proofs.Rows.{pass, stop}
 use Rattle.meaning.proofs.Conditions.{some_sector}
 
 -- whole b's and a rest, taken apart again
@@ -34,15 +34,11 @@ module _ (d : Drive) where
 
   pub on_last : maximum_on d d.head ≡ d.last_sector
   unfolding maximum_on
-  on_last = stop (eqb d.head d.head) d.last_sector d.sector (eq-eqb d.head d.head refl)
+  on_last = cond-true (eqb d.head d.head) d.last_sector d.sector (eq-eqb d.head d.head refl)
 
   pub on_other : (head : ℕ) → head ≢ d.head → maximum_on d head ≡ d.sector
   unfolding maximum_on
-  on_other head n = pass _ _ _ (ne_eqb _ _ n)
-
-  -- a head is the last or comes before it
-  last_or_before : (head : ℕ) → head ≤ d.head → (head ≡ d.head) ⊎ (head < d.head)
-  last_or_before head h = eq-or-lt_of_le h
+  on_other head n = cond-false _ _ _ (ne_eqb _ _ n)
 
   -- the count as a sum: the cylinders before the last, and the last
   pub count_by_cylinders : sector_count d ≡ d.cylinder * per_cylinder d + per_cylinder d
@@ -58,7 +54,7 @@ module _ (d : Drive) where
   -- the sectors of a cylinder before a place on it, that place's head and sector being within their maxima, are fewer than all of them
   in_cylinder : (head sector : ℕ) → head ≤ d.head → sector ≤ maximum_on d head → head * per_track d + sector < per_cylinder d
   unfolding per_cylinder
-  in_cylinder head sector h s = go (last_or_before head h) s
+  in_cylinder head sector h s = go (eq-or-lt_of_le h) s
     where
       go : (head ≡ d.head) ⊎ (head < d.head) → sector ≤ maximum_on d head → head * per_track d + sector < d.head * per_track d + per_last_track d
       go (inl e) s = let m = ap (maximum_on d) e ∙ on_last in let p = ap (λ (k : ℕ). k * per_track d) e in omega arith
@@ -166,8 +162,8 @@ module _ (d : Drive) where
     within_track head = go (eqb head d.head) refl
       where
         go : (b : Bool) → eqb head d.head ≡ b → maximum_on d head ≤ d.sector
-        go true e = let m : maximum_on d head ≡ d.last_sector = stop _ _ _ e in omega (arith, not_longer)
-        go false e = let m : maximum_on d head ≡ d.sector = pass _ _ _ e in omega arith
+        go true e = let m : maximum_on d head ≡ d.last_sector = cond-true _ _ _ e in omega (arith, not_longer)
+        go false e = let m : maximum_on d head ≡ d.sector = cond-false _ _ _ e in omega arith
 
     pub place_of_number : (p : Place) → OnDrive d p → place_of d (number_of d p) ≡ p
     unfolding sector_number place_of
@@ -188,7 +184,7 @@ module _ (d : Drive) where
 
     sector_fits : (rest : ℕ) → rest < per_cylinder d → rest % per_track d ≤ maximum_on d (rest / per_track d)
     unfolding per_cylinder
-    sector_fits rest i = go (last_or_before (rest / per_track d) (head_fits rest i))
+    sector_fits rest i = go (eq-or-lt_of_le (head_fits rest i))
       where
         go : (rest / per_track d ≡ d.head) ⊎ (rest / per_track d < d.head) → rest % per_track d ≤ maximum_on d (rest / per_track d)
         go (inl e) =

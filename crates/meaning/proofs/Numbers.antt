@@ -3,11 +3,12 @@
 use mathlib.Core.Path.{◌≡◌, refl, sym, ◌∙◌}
 use Prim.Native.Nat.{ℕ, ◌≤◌, ◌<◌}
 use native.Mathlib.Omega.{arith}
-use mathlib.Core.Bool.{Bool, true, false, not, ◌||◌, cond, false≢true}
+use mathlib.Core.Bool.{Bool, true, false, not, ◌||◌, cond, false≢true, or-false}
 use mathlib.Core.List.{List, [], ◌∷◌}
 use lib.ListN.{length, get_or, take}
 use lib.Dec.{ltb, eqb}
 use borrow.Author.Tests.{ltb-false, le-ltb, leb-false, lt-leb, eq-eqb}
+use Rattle.std.proofs.lemmas.Bool.{and_parts, or_parts}
 use Rattle.meaning.specs.Drives.{Drives}
 use Rattle.meaning.specs.declared.Record.{Record}
 use Rattle.meaning.specs.First.{Row, first_in, first_of}
@@ -17,9 +18,7 @@ use Rattle.meaning.specs.Sizes.{store_wrong, sizes_wrong}
 use Rattle.meaning.specs.Command.{finished, no_record}
 use Rattle.meaning.specs.Pick.{bad_record, spoiled, waits, place_number, pick_number, run_rows, place_rows}
 use Rattle.meaning.specs.Run.{run_number}
-use Rattle.meaning.proofs.Rows.{and-true, or-false}
 use Rattle.meaning.proofs.Loops.{none_at}
-use Rattle.meaning.proofs.Tests.{or_no}
 use Rattle.meaning.proofs.All.{All}
 
 -- ---- rows of a table
@@ -39,7 +38,7 @@ row_off false k x e h = (refl, e)
 pub rows_off : (rows : List Row) (z : ℕ) → first_of rows z ≡ 0 → every_of told rows ≡ true → All Off rows
 rows_off [] z e h = tt
 rows_off (r ∷ rows) z e h =
-    let t = and-true (told r) (every_of told rows) h in
+    let t = and_parts (told r) (every_of told rows) h in
     let q = row_off r.applies r.gives (first_of rows z) e t.0 in
     (q.0, rows_off rows z q.1 t.1)
 
@@ -50,7 +49,7 @@ told_but N r = not (eqb r.gives N) || not r.applies
 pub rows_but : (N : ℕ) (rows : List Row) (z : ℕ) → first_of rows z ≡ N → every_of (told_but N) rows ≡ true → All Off rows
 rows_but N [] z e h = tt
 rows_but N (r ∷ rows) z e h =
-    let t = and-true (told_but N r) (every_of (told_but N) rows) h in
+    let t = and_parts (told_but N r) (every_of (told_but N) rows) h in
     let q = go r.applies e t.0 in
     (q.0, rows_but N rows z q.1 t.1)
   where
@@ -91,16 +90,16 @@ module _ (d : Drives) (s : State) where
 
   pub sizes_long : sizes_wrong d s ≡ false → most_commands ≤ length s.table
   unfolding sizes_wrong
-  sizes_long e = ltb-false (length s.table) most_commands (or-false (store_wrong d s.store) short e).1
+  sizes_long e = ltb-false (length s.table) most_commands (or_parts (store_wrong d s.store) short e).1
 
   pub sizes_store : sizes_wrong d s ≡ false → store_wrong d s.store ≡ false
   unfolding sizes_wrong
-  sizes_store e = (or-false (store_wrong d s.store) short e).0
+  sizes_store e = (or_parts (store_wrong d s.store) short e).0
 
   -- a table that is long enough: sizes are wrong only where memory or image are
   pub full_table : most_commands ≤ length s.table → sizes_wrong d s ≡ store_wrong d s.store
   unfolding sizes_wrong
-  full_table h = rw (le-ltb (length s.table) most_commands h) (or_no (store_wrong d s.store))
+  full_table h = rw (le-ltb (length s.table) most_commands h) (or-false (store_wrong d s.store))
 
 -- ---- 1 and 9 are not given
 
@@ -147,7 +146,7 @@ module _ (d : Drives) (n : ℕ) (s : State) where
 
   pub most_32 : Passed d n s → n ≤ most_commands
   unfolding spoiled
-  most_32 h = ltb-false most_commands n (or-false (ltb most_commands n) (some_of (bad_record d s.store) (take n s.table)) h.sound).0
+  most_32 h = ltb-false most_commands n (or_parts (ltb most_commands n) (some_of (bad_record d s.store) (take n s.table)) h.sound).0
 
   pub in_table : Passed d n s → n ≤ length s.table
   in_table h = let a = table_long h in let b = most_32 h in omega arith
@@ -157,4 +156,4 @@ module _ (d : Drives) (n : ℕ) (s : State) where
   unfolding spoiled
   none_bad h k l =
       none_at no_record (bad_record d s.store) s.table n k
-      (or-false (ltb most_commands n) (some_of (bad_record d s.store) (take n s.table)) h.sound).1 l (let a = in_table h in omega arith)
+      (or_parts (ltb most_commands n) (some_of (bad_record d s.store) (take n s.table)) h.sound).1 l (let a = in_table h in omega arith)

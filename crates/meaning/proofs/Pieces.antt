@@ -8,6 +8,7 @@ use native.Mathlib.Decide.{dec_lt}
 use native.Mathlib.Omega.{arith}
 use mathlib.Core.List.{List, [], ◌∷◌, map}
 use borrow.Author.Tests.{lt-ltb, le-ltb, eq-eqb, ne_eqb}
+use Rattle.std.proofs.lemmas.Bool.{cond-false, cond-true}
 use Rattle.meaning.specs.declared.Link.{Link}
 use Rattle.meaning.specs.declared.Record.{Record}
 use Rattle.meaning.specs.Sectors.{sector_bytes}
@@ -19,7 +20,6 @@ use Rattle.meaning.specs.Touch.{data_bytes}
 use Rattle.meaning.specs.Step.{pieces_at}
 use Rattle.meaning.specs.Conditions.{SomeOf}
 use Rattle.meaning.proofs.All.{All, all_map}
-use Rattle.meaning.proofs.Rows.{pass, stop}
 use Rattle.meaning.proofs.Conditions.{Inside}
 
 -- ---- every byte that was asked for
@@ -98,7 +98,7 @@ module _ (lo hi : ℕ) where
       first i h =
           let less : b + s₁ + i - b < x.many = omega arith in
           let at : x.from + s₁ + i ≡ x.from + (b + s₁ + i - b) = omega arith in
-          at ∙ sym (stop _ _ _ (lt-ltb (b + s₁ + i - b) x.many less))
+          at ∙ sym (cond-true _ _ _ (lt-ltb (b + s₁ + i - b) x.many less))
 
       all-map_at : (ps : List Piece) → All (λ p. b + x.many ≤ p.at) ps → All (λ p. (i : ℕ) → i < p.many → p.from + i ≡ byte_at rs (p.at + i - (b + x.many))) ps
           → All (λ p. (i : ℕ) → i < p.many → p.from + i ≡ byte_at (x ∷ rs) (p.at + i - b)) ps
@@ -107,7 +107,7 @@ module _ (lo hi : ℕ) where
         (λ i h.
             let past : x.many ≤ p.at + i - b = let z = u.0 in omega arith in
             let at : p.at + i - (b + x.many) ≡ p.at + i - b - x.many = omega arith in
-            v.0 i h ∙ ap (byte_at rs) at ∙ sym (pass _ _ _ (le-ltb (p.at + i - b) x.many past))),
+            v.0 i h ∙ ap (byte_at rs) at ∙ sym (cond-false _ _ _ (le-ltb (p.at + i - b) x.many past))),
         all-map_at ps u.1 v.1,
       )
 
@@ -142,7 +142,7 @@ data_memory r = go (listed r)
 -- ---- where the data is, by whether there is a list
 
 pub data_plain : (r : Record) → r.ranges ≡ 0 → data_bytes r ≡ bytes r.address (sector_bytes * r.count) ∷ []
-data_plain r e = pass _ _ _ (ap not (eq-eqb r.ranges 0 e))
+data_plain r e = cond-false _ _ _ (ap not (eq-eqb r.ranges 0 e))
 
 pub data_listed : (r : Record) → r.ranges ≢ 0 → data_bytes r ≡ map range_of (links_of r)
-data_listed r n = stop _ _ _ (ap not (ne_eqb r.ranges 0 n))
+data_listed r n = cond-true _ _ _ (ap not (ne_eqb r.ranges 0 n))

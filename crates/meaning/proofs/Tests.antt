@@ -4,8 +4,8 @@ use Prim.Native.Nat.{ℕ, zero, suc, ◌+◌}
 use mathlib.Core.Bool.{Bool, true, false, not, ◌&&◌, ◌||◌, or_assoc, false≢true}
 use mathlib.Core.List.{List, [], ◌∷◌, ◌++◌, map}
 use lib.ListN.{get_or, set, take}
+use Rattle.std.proofs.lemmas.Bool.{and_parts, or_from}
 use Rattle.meaning.specs.Each.{some_of, every_of, sum_of}
-use Rattle.meaning.proofs.Rows.{and-true, or_none}
 use Rattle.meaning.proofs.All.{All}
 
 pub and-false : (a b : Bool) → (a && b) ≡ false → a ≡ true → b ≡ false
@@ -42,7 +42,7 @@ some_or f g (x ∷ xs) = ap (λ (b : Bool). (f x || g x) || b) (some_or f g xs) 
 -- no element passes
 pub some_no : {A : Type 0} (P : A → Type 0) (f : A → Bool) → ((x : A) → P x → f x ≡ false) → (xs : List A) → All P xs → some_of f xs ≡ false
 some_no P f e [] h = refl
-some_no P f e (x ∷ xs) h = or_none (f x) (some_of f xs) (e x h.0) (some_no P f e xs h.1)
+some_no P f e (x ∷ xs) h = or_from (f x) (some_of f xs) (e x h.0) (some_no P f e xs h.1)
 
 -- a test put to what f makes of the elements
 pub some_map : {A B : Type 0} (f : A → B) (p : B → Bool) (xs : List A) → some_of p (map f xs) ≡ some_of (λ x. p (f x)) xs
@@ -57,7 +57,7 @@ sum-map f g (x ∷ xs) = ap (λ (k : ℕ). g (f x) + k) (sum-map f g xs)
 pub every_none : {A : Type 0} (f g : A → Bool) (xs : List A) → every_of f xs ≡ true → some_of (λ x. not (f x) && g x) xs ≡ false
 every_none f g [] e = refl
 every_none f g (x ∷ xs) e =
-    let h = and-true (f x) (every_of f xs) e in
+    let h = and_parts (f x) (every_of f xs) e in
     rw h.0 (every_none f g xs h.1)
 
 -- one element is replaced by one that the test cannot tell from it

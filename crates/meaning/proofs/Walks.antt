@@ -3,7 +3,7 @@
 use mathlib.Core.Path.{◌≡◌, refl, sym, ap, ap₂, ◌∙◌, subst}
 use Prim.Native.Nat.{ℕ, zero, suc, ◌+◌, ◌≤◌, ◌<◌, zero-le}
 use native.Mathlib.Omega.{arith}
-use mathlib.Core.Bool.{Bool, true, false, not, ◌&&◌, cond}
+use mathlib.Core.Bool.{Bool, true, false, not, ◌&&◌, cond, and-false}
 use mathlib.Core.List.{List, [], ◌∷◌, ◌++◌, map}
 use lib.ListN.{length, drop, length-append, length-drop}
 use lib.Seq.{take-append_seam}
@@ -28,7 +28,8 @@ use Rattle.meaning.specs.Command.{transfers, steps_of, remaining}
 use Rattle.meaning.specs.Pick.{bad_transfer, bad_record, spoiled}
 use Rattle.meaning.specs.Run.{chain_steps, steps_left}
 use Rattle.meaning.proofs.All.{All, all_append, Among, here, there, all_at}
-use Rattle.meaning.proofs.Tests.{and_no, sum-map}
+use Rattle.std.proofs.lemmas.Bool.{cond_both}
+use Rattle.meaning.proofs.Tests.{some_no, sum-map}
 use Rattle.meaning.proofs.Links.{in_few, in_listed, none_outside, links_kept}
 use Rattle.meaning.proofs.Numbers.{Off, rows_off, off_last, Passed, sizes_long}
 
@@ -103,7 +104,7 @@ module _ (d : Drives) (s : Store) (c : Copied) (a : ℕ) where
       go : (x y : Bool) → eqb own_code 0 ≡ x → eqb (command_in c.byte0) nop ≡ y → (transfers filling && bad_transfer d s filling) ≡ false
       go false y e h = rw e
       go true true e h = rw (e, eqb-true (command_in c.byte0) 0 h)
-      go true false e h = rw (code_good (eqb-true own_code 0 e) h) (and_no (transfers filling))
+      go true false e h = rw (code_good (eqb-true own_code 0 e) h) (and-false (transfers filling))
 
 -- a record that number 9 lets pass, and of which no step is taken
 pub record Fresh (d : Drives) (s : Store) (r : Record) : Type 0 where
@@ -123,11 +124,6 @@ pub Fine : Drives → State → Chain → Type 0
 Fine d s (refused k) = 0 < k
 Fine d s (accepted rs) = (sizes_wrong d s ≡ false) × (length rs ≤ most_commands) × All (Fresh d s.store) rs
 
--- whichever way a test goes
-fine_cond : (d : Drives) (s : State) (b : Bool) (x y : Chain) → (b ≡ true → Fine d s x) → (b ≡ false → Fine d s y) → Fine d s (cond b x y)
-fine_cond d s true x y f g = f refl
-fine_cond d s false x y f g = g refl
-
 follow_fine : (more : ℕ) (d : Drives) (s : State) (earlier : List Record) (a : ℕ) → sizes_wrong d s ≡ false
     → length earlier + more ≤ most_commands → All (Fresh d s.store) earlier → Fine d s (follow more (s.store memory) d earlier a)
 unfolding follow Fine
@@ -139,17 +135,17 @@ follow_fine (suc more) d s earlier a z l h =
     let rs = earlier ++ r ∷ [] in
     let longer : length rs ≡ length earlier + 1 = length-append earlier (r ∷ []) in
     let all : all_in m a ≡ true → All (Fresh d s.store) rs = λ e. all_append (Fresh d s.store) earlier (r ∷ []) h (filled_fresh d s.store c a e, tt) in
-    fine_cond d s (not (all_in m a)) _ _ (λ _. lit< tt) λ e.
-    fine_cond d s (some_of (λ q. shares q.iopb a) earlier) _ _ (λ _. lit< tt) λ _.
+    cond_both (not (all_in m a)) _ _ (Fine d s) (λ _. lit< tt) λ e.
+    cond_both (some_of (λ q. shares q.iopb a) earlier) _ _ (Fine d s) (λ _. lit< tt) λ _.
     let fresh = all (not-false (all_in m a) e) in
-    fine_cond d s (goes_on c) _ _ (λ _. follow_fine more d s rs c.next z (omega arith) fresh) λ _.
+    cond_both (goes_on c) _ _ (Fine d s) (λ _. follow_fine more d s rs c.next z (omega arith) fresh) λ _.
     (z, omega arith, fresh)
 
 pub chain_fine : (d : Drives) (start : ℕ) (s : State) → Fine d s (chain_at d start s)
 unfolding chain_at Fine
 chain_fine d start s =
-    fine_cond d s (sizes_wrong d s) _ _ (λ _. lit< tt) λ e.
-    fine_cond d s (odd start) _ _ (λ _. lit< tt) λ _.
+    cond_both (sizes_wrong d s) _ _ (Fine d s) (λ _. lit< tt) λ e.
+    cond_both (odd start) _ _ (Fine d s) (λ _. lit< tt) λ _.
     follow_fine most_commands d s [] start e (lit≤ tt) tt
 
 -- a refusal is never number 0, and there are at most 32 commands
@@ -162,10 +158,6 @@ unfolding Fine
 chain_most d start s rs e = (subst (Fine d s) e (chain_fine d start s)).1
 
 -- ---- what the walk gives
-
-fresh_none : (d : Drives) (s : Store) (rs : List Record) → All (Fresh d s) rs → some_of (bad_record d s) rs ≡ false
-fresh_none d s [] h = refl
-fresh_none d s (r ∷ rs) h = rw h.0.sound (fresh_none d s rs h.1)
 
 fresh_remaining : (d : Drives) (s : Store) (r : Record) → Fresh d s r → remaining r ≡ steps_of r
 unfolding remaining
@@ -198,7 +190,7 @@ chain_is_sound d start s rs e =
       passed =
           record {
             sizes = rw (table_length rs s.table (let z = h.1 in omega arith)) h.0;
-            sound = rw (le-ltb most_commands (length rs) h.1, take-append_seam rs more) (fresh_none d s.store rs h.2);
+            sound = rw (le-ltb most_commands (length rs) h.1, take-append_seam rs more) (some_no (Fresh d s.store) (bad_record d s.store) (λ r f. f.sound) rs h.2);
           };
       steps = rw take-append_seam (sym (sum-map remaining (λ k. k) rs) ∙ ap (sum_of (λ k. k)) all ∙ sum-map steps_of (λ k. k) rs);
     }

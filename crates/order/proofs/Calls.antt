@@ -8,12 +8,12 @@ use mathlib.Core.List.{List, [], ◌∷◌}
 use lib.Dec.{eqb}
 use borrow.Author.Tests.{eqb-true, eqb-false, eq-eqb}
 use native.Mathlib.Nat.{le_refl}
+use Rattle.std.proofs.lemmas.Bool.{cond-true}
 use Rattle.meaning.specs.Drives.{Drives}
 use Rattle.meaning.specs.declared.Ran.{Ran}
 use Rattle.meaning.specs.State.{State}
 use Rattle.meaning.specs.Pick.{pick_number, step_at, picked, PickGives}
 use Rattle.meaning.specs.Run.{chain_steps, steps_left, run_number, Tally, at_start, one_pick, picks_from, by_picks, as_written, ran_to, run_reply, RunGives}
-use Rattle.meaning.proofs.Rows.{stop}
 use Rattle.meaning.proofs.Numbers.{run_passed, passed_run}
 use Rattle.order.specs.States.{written_picks, rest}
 use Rattle.order.specs.Calls.{Call, pick, run_by_picks, run_as_written, leaves, takes, after_calls, steps_taken, Makes, MakeAll}
@@ -150,7 +150,7 @@ module _ (d : Drives) (n b : ℕ) (s : State) where
 
   run_0 : run_number d n s ≡ 0 → ran_to d n (as_written d n b) s ≡ as_written d n b s
   unfolding ran_to
-  run_0 e = stop _ _ _ (eq-eqb _ _ e)
+  run_0 e = cond-true _ _ _ (eq-eqb _ _ e)
 
 pub any_calls_then_rest : AnyCallsThenRest
 any_calls_then_rest d n cs b k s s₁ s₂ s₀ r r₀ g l w w₀ = which (eqb (run_number d n s) 0) refl

@@ -10,6 +10,7 @@ use lib.ListN.{length, get_or, set, take, drop, take-append-drop}
 use lib.Seq.{length-take-le, take-set-lt, drop-set-lt, get_or-take, take-take}
 use lib.Dec.{eqb}
 use borrow.Author.Tests.{eq-eqb}
+use Rattle.std.proofs.lemmas.Bool.{and_parts, cond-true}
 use Rattle.meaning.specs.Drives.{Drives}
 use Rattle.meaning.specs.declared.Record.{Record}
 use Rattle.meaning.specs.Each.{every_of}
@@ -20,7 +21,6 @@ use Rattle.meaning.specs.Touch.{conflict}
 use Rattle.meaning.specs.Step.{step, stepped}
 use Rattle.meaning.specs.Pick.{waits, pick_number, step_at}
 use Rattle.meaning.specs.Run.{all_finished, run_number, Tally, at_start, one_pick, picks_from, by_picks, written, as_written}
-use Rattle.meaning.proofs.Rows.{and-true, stop}
 use Rattle.meaning.proofs.Tests.{and-false, every_none}
 use Rattle.meaning.proofs.Numbers.{Free, free_place, run_passed, passed_pick, in_table}
 use Rattle.meaning.proofs.Records.{unfinished_some}
@@ -55,7 +55,7 @@ no_command_lem : (d : Drives) (b : ℕ) (t : List Record) (s : Store) → every_
 unfolding written
 no_command_lem d b [] s e = refl
 no_command_lem d b (r ∷ rs) s e =
-    let h = and-true (finished r) (every_of finished rs) e in
+    let h = and_parts (finished r) (every_of finished rs) e in
     written_finished d b r rs s h.0 ∙ ap (front 0 r) (no_command_lem d b rs s h.1)
 
 -- ---- a step to take
@@ -84,7 +84,7 @@ one_step : (d : Drives) (b : ℕ) (t : List Record) (s : Store) (p : ℕ) → Ea
 one_step d b [] s p h = absurd (not-suc-le-zero h.in_use)
 one_step d b (r ∷ rs) s zero h = written_unfinished d b r rs s (unfinished_some r h.unfinished)
 one_step d b (r ∷ rs) s (suc p) h =
-    let f = and-true (finished r) (every_of finished (take p rs)) h.before in
+    let f = and_parts (finished r) (every_of finished (take p rs)) h.before in
     let c = get_or rs p no_record in
     let qs = set rs p (stepped c) in
     let u = step d c s in
@@ -135,7 +135,7 @@ written_step d n b p s l h =
 pick_first : (d : Drives) (n p : ℕ) (ps : List ℕ) (s : State) → pick_number d n p s ≡ 0 → by_picks d n (p ∷ ps) s ≡ one_more (by_picks d n ps (step_at d p s))
 unfolding by_picks picks_from one_pick
 pick_first d n p ps s e =
-    ap (picks_from d n ps) (stop (eqb (pick_number d n p s) 0) _ _ (eq-eqb _ _ e))
+    ap (picks_from d n ps) (cond-true (eqb (pick_number d n p s) 0) _ _ (eq-eqb _ _ e))
     ∙ before_picks d n ps 1 0 (at_start (step_at d p s))
     ∙ (let y = picks_from d n ps (at_start (step_at d p s)) in λ i. record { steps = one-add y.steps i; refused = zero-add y.refused i; state = y.state })
   where

@@ -8,6 +8,7 @@ use mathlib.Core.Bool.{Bool, true, false, ◌||◌, cond}
 use mathlib.Core.List.{List, [], ◌∷◌, ◌++◌, map}
 use lib.Dec.{eqb}
 use borrow.Author.Tests.{ltb-false}
+use Rattle.std.proofs.lemmas.Bool.{or_parts}
 use Rattle.meaning.specs.Drives.{Drives}
 use Rattle.meaning.specs.declared.Record.{Record}
 use Rattle.meaning.specs.Each.{some_of}
@@ -19,7 +20,7 @@ use Rattle.meaning.specs.Pieces.{Piece, piece_of, pieces_of}
 use Rattle.meaning.specs.Touch.{Touched, data_bytes, status_bytes, sectors, by_read, by_write, touched, touched_by, disturbs, conflict}
 use Rattle.meaning.specs.Step.{pieces_at, in_memory, in_sector, sector_move, closing, close_move, step_moves, step, sector_move_by}
 use Rattle.meaning.proofs.Means.{Means, holds, fails, means_eq}
-use Rattle.meaning.proofs.Rows.{or-false, and_second}
+use Rattle.meaning.proofs.Rows.{and_second}
 use Rattle.meaning.proofs.All.{All, all_append, all_map}
 use Rattle.meaning.proofs.Spaces.{Separate, writes_to, reads_from, Spares, KeepApart, moves_comm}
 use Rattle.meaning.proofs.Places.{part_of, parts_separate, memory_disk, disk_memory}
@@ -64,8 +65,8 @@ inside_right x (z ∷ zs) h = there (inside_right x zs h)
 
 -- a test that all the ranges fail is failed by the one that the area lies in
 find : (p : Range → Bool) (x : Area) {zs : List Range} → some_of p zs ≡ false → Inside x zs → (z : Range) × (p z ≡ false) × Lies x z
-find p x e (here {z = z} {zs = zs} h) = (z, (or-false (p z) (some_of p zs) e).0, h)
-find p x e (there {z = z} {zs = zs} h) = find p x (or-false (p z) (some_of p zs) e).1 h
+find p x e (here {z = z} {zs = zs} h) = (z, (or_parts (p z) (some_of p zs) e).0, h)
+find p x e (there {z = z} {zs = zs} h) = find p x (or_parts (p z) (some_of p zs) e).1 h
 
 meet_separate : (x y : Area) {zs ws : List Range} → meet zs ws ≡ false → Inside x zs → Inside y ws → Separate x y
 meet_separate x y {zs} {ws} e h k =
@@ -167,6 +168,6 @@ pub step_comm : (d : Drives) (r q : Record) (s : Store) → 0 < remaining r → 
     → step d r (step d q s) ≡ step d q (step d r s)
 unfolding step conflict remaining
 step_comm d r q s h k e =
-    let n = or-false (disturbs (touched r) (touched q)) (disturbs (touched q) (touched r)) e in
+    let n = or_parts (disturbs (touched r) (touched q)) (disturbs (touched q) (touched r)) e in
     moves_comm (step_moves d r) (step_moves d q) s
     (keeps_apart (touched r) (touched q) (step_moves d r) (step_moves d q) n.0 n.1 (step_keeps d r (omega arith)) (step_keeps d q (omega arith)))

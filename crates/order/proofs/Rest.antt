@@ -9,6 +9,7 @@ use mathlib.Core.List.{List, [], ◌∷◌, ◌++◌}
 use lib.ListN.{length, get_or, set, take, drop}
 use lib.Seq.{length-take-le, take-set-lt, drop-set-lt, get_or-take, take-take}
 use borrow.Author.Tests.{eq-eqb}
+use Rattle.std.proofs.lemmas.Bool.{or_parts, cond-true}
 use Rattle.meaning.specs.Drives.{Drives}
 use Rattle.meaning.specs.declared.Record.{Record}
 use Rattle.meaning.specs.Each.{some_of, sum_of}
@@ -19,7 +20,6 @@ use Rattle.meaning.specs.Touch.{conflict}
 use Rattle.meaning.specs.Step.{step, stepped}
 use Rattle.meaning.specs.Pick.{waits, step_at}
 use Rattle.meaning.specs.Run.{steps_left, run_number, Tally, by_picks, advanced, steps_done, written, as_written, ran_to}
-use Rattle.meaning.proofs.Rows.{or-false, stop}
 use Rattle.meaning.proofs.Tests.{and-false}
 use Rattle.meaning.proofs.Numbers.{Free, free_place, Passed, passed_run, in_table}
 use Rattle.meaning.proofs.Records.{some_unfinished, unfinished_some, remaining_stepped, conflict_stepped}
@@ -75,7 +75,7 @@ as_written_finish d n b s h = ap (joined (drop n s.table)) (written_finish d b (
 rest_finish : (d : Drives) (n : ℕ) (s : State) → run_number d n s ≡ 0 → rest d n s ≡ all_done d n s
 unfolding rest ran_to
 rest_finish d n s e =
-    ap (λ (y : Tally). y.state) (stop _ _ _ (eq-eqb _ _ e))
+    ap (λ (y : Tally). y.state) (cond-true _ _ _ (eq-eqb _ _ e))
     ∙ as_written_finish d n (steps_left s.table n) s (le_refl (steps_left s.table n))
 
 pub larger_does_no_more : LargerDoesNoMore
@@ -87,7 +87,7 @@ clear : (d : Drives) (c : Record) (es : List Record) → some_of (λ e. not (fin
     → Clear (step d) stepped remaining conflict c es
 clear d c [] w = tt
 clear d c (e ∷ es) w =
-    let h = or-false (not (finished e) && conflict e c) (some_of (λ q. not (finished q) && conflict q c) es) w in
+    let h = or_parts (not (finished e) && conflict e c) (some_of (λ q. not (finished q) && conflict q c) es) w in
     (λ l. and-false (not (finished e)) (conflict e c) h.0 (ap not (some_unfinished e l)), clear d c es h.1)
 
 finish_pick : (d : Drives) (n p : ℕ) (t : List Record) (s : Store) → n ≤ length t → Free t n p

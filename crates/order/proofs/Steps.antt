@@ -7,11 +7,11 @@ use mathlib.Core.Bool.{true}
 use mathlib.Core.List.{List}
 use lib.ListN.{take}
 use borrow.Author.Tests.{eqb-true, eq-eqb}
+use Rattle.std.proofs.lemmas.Bool.{cond-true}
 use Rattle.meaning.specs.Drives.{Drives}
 use Rattle.meaning.specs.declared.Ran.{Ran}
 use Rattle.meaning.specs.State.{State}
 use Rattle.meaning.specs.Run.{steps_left, all_finished, run_number, Tally, by_picks, as_written, ran_to, run_reply, RunGives}
-use Rattle.meaning.proofs.Rows.{stop}
 use Rattle.meaning.proofs.Counts as counts
 use Rattle.order.specs.States.{written_picks}
 use Rattle.order.specs.Steps.{NoneLeft, ReportsAddUp}
@@ -65,7 +65,7 @@ module _ (d : Drives) (n : ℕ) (go : State → Tally) (s : State) (r : Ran) (s'
 
   ran_is : ran_to d n go s ≡ y
   unfolding ran_to
-  ran_is = stop _ _ _ (eq-eqb _ _ passed_run_0)
+  ran_is = cond-true _ _ _ (eq-eqb _ _ passed_run_0)
 
   pub reports_steps : r.steps ≡ y.steps
   unfolding RunGives run_reply
@@ -79,7 +79,7 @@ module _ (d : Drives) (n : ℕ) (go : State → Tally) (s : State) (r : Ran) (s'
   unfolding RunGives run_reply
   reports_finished =
       ap (λ (x : Ran). x.finished) g.0
-      ∙ stop _ _ _ (eq-eqb _ _ passed_run_0)
+      ∙ cond-true _ _ _ (eq-eqb _ _ passed_run_0)
       ∙ ap (λ (x : Tally). all_finished x.state.table n) ran_is
 
   pub leaves_state : s' ≡ y.state

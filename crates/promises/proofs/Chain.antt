@@ -9,6 +9,7 @@ use mathlib.Core.Bool.{Bool, true, false, not, cond, or-false, not-not}
 use mathlib.Core.List.{List, [], ◌∷◌, ◌++◌}
 use lib.ListN.{length}
 use lib.Dec.{eqb}
+use Rattle.std.proofs.lemmas.List.Folds.{list_any-append}
 use Rattle.meaning.specs.Drives.{Drives}
 use Rattle.meaning.specs.declared.Record.{Record}
 use Rattle.meaning.specs.Each.{some_of}
@@ -19,7 +20,6 @@ use Rattle.meaning.specs.Walk.{record_of, shares, goes_on, Chain, refused, accep
 use Rattle.meaning.specs.Table.{Given, NoneOf}
 use Rattle.meaning.specs.Conditions.{Shares}
 use Rattle.meaning.proofs.Means.{Means, holds, fails, when_true, when_false, means_iff, means_or, means_not-and, means_above, means_eq, means_other}
-use Rattle.meaning.proofs.Tests.{some_append}
 use Rattle.meaning.proofs.Ranges.{means_shares}
 use Rattle.promises.specs.WalkNumbers.{walked_at, reached, OutOfMemory, SharesEarlier, Ends, at_iopb, Comes, InTurn}
 
@@ -41,7 +41,7 @@ module _ (m : List ℕ) (d : Drives) (start : ℕ) where
     means_earlier : (k : ℕ) → Means ((j : ℕ) × (j < k) × P j) (some_of p (commands_to k))
     means_earlier zero = fails (λ h. not-suc-le-zero h.1)
     means_earlier (suc k) =
-        rw some_append
+        rw list_any-append
         (means_iff (there, λ h. back h.0 h.1 h.2) (means_or (means_earlier k) (rw or-false (means k))))
       where
         there : ((j : ℕ) × (j < k) × P j) ⊎ P k → (j : ℕ) × (j < suc k) × P j

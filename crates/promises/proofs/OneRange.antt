@@ -12,6 +12,7 @@ use lib.ListN.{length, get_or, set}
 use lib.Seq.{sets, set_out, get_or-set_same, get_or-set_other}
 use lib.Dec.{eqb}
 use borrow.Author.Tests.{eq-eqb, ne_eqb}
+use Rattle.std.proofs.lemmas.Bool.{cond-false, cond-true}
 use Rattle.meaning.specs.declared.Copied.{Copied}
 use Rattle.meaning.specs.declared.Drive.{Drive}
 use Rattle.meaning.specs.Drives.{Drives}
@@ -34,7 +35,6 @@ use Rattle.meaning.proofs.Means.{Means, holds, fails, means_eq}
 use Rattle.meaning.proofs.Ranges.{means_same}
 use Rattle.meaning.proofs.Spaces.{moves_append, length_moves}
 use Rattle.meaning.proofs.Records.{remaining_stepped}
-use Rattle.meaning.proofs.Rows.{pass, stop}
 use Rattle.meaning.proofs.Links.{links_kept}
 use Rattle.meaning.proofs.Pieces.{data_plain, data_listed}
 use Rattle.promises.specs.WalkNumbers.{walked_at}
@@ -264,7 +264,7 @@ one_range_as_none d r q x o =
 -- a command without SGM has no list
 none_read : (m : List ℕ) (d : Drive) (e : Copied) → gathers e ≡ false → links_read m e d ≡ []
 unfolding links_read links_in
-none_read m d e g = ap (λ (xs : List Link). cond (eqb (early_code e d) 0 && not (list_outside e (length m))) xs []) (pass _ _ _ g) ∙ either (eqb (early_code e d) 0 && not (list_outside e (length m)))
+none_read m d e g = ap (λ (xs : List Link). cond (eqb (early_code e d) 0 && not (list_outside e (length m))) xs []) (cond-false _ _ _ g) ∙ either (eqb (early_code e d) 0 && not (list_outside e (length m)))
   where
     either : (b : Bool) → ◌≡◌ {A = List Link} (cond b [] []) []
     either true = refl
@@ -273,7 +273,7 @@ none_read m d e g = ap (λ (xs : List Link). cond (eqb (early_code e d) 0 && not
 -- and one with SGM and byte 6 for one element that element
 one_link : (m : List ℕ) (c : Copied) → gathers c ≡ true → link_count c ≡ 1 → links_in m c ≡ link_at m c.address ∷ []
 unfolding links_in links_at
-one_link m c g n = stop _ _ _ g ∙ ap (links_at m c.address) n ∙ ap (λ (a : ℕ). link_at m a ∷ []) (add-zero c.address)
+one_link m c g n = cond-true _ _ _ g ∙ ap (links_at m c.address) n ∙ ap (λ (a : ℕ). link_at m a ∷ []) (add-zero c.address)
 
 -- the bytes of count, cylinder, head and sector are the same, so these are
 module _ (m m' : List ℕ) (d : Drives) (a : ℕ) (h : SameButSgm m m' d a) where

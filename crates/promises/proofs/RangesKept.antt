@@ -9,6 +9,7 @@ use mathlib.Core.List.{List, [], map}
 use lib.ListN.{length}
 use lib.Dec.{ltb, eqb}
 use borrow.Author.Tests.{ltb-false, le-ltb, eqb-true, eqb-false, eq-eqb, ne_eqb}
+use Rattle.std.proofs.lemmas.Bool.{cond-true, and_parts, or_parts, not-true, not-false}
 use Rattle.meaning.specs.declared.Drive.{Drive}
 use Rattle.meaning.specs.declared.Copied.{Copied}
 use Rattle.meaning.specs.declared.Link.{Link}
@@ -21,7 +22,6 @@ use Rattle.meaning.specs.Code.{nop, write, read, command_in, chained, gathers, o
 use Rattle.meaning.specs.Walk.{record_of}
 use Rattle.meaning.proofs.All.{All}
 use Rattle.meaning.proofs.Means.{Means, holds, fails, means_eq}
-use Rattle.meaning.proofs.Rows.{stop, and-true, or-false, not-true, not-false}
 use Rattle.meaning.proofs.Tests.{and-false}
 use Rattle.meaning.proofs.Links.{in_listed, links_kept}
 use Rattle.meaning.proofs.Numbers.{Off, told_but, rows_but, off_last}
@@ -92,7 +92,7 @@ module _ (c : Copied) (d : Drive) (m : List ℕ) where
     where
       go : (b : Bool) → (eqb (early_code c d) 0 && not (list_outside c n)) ≡ b → length (cond b xs []) ≢ 0 → WasRead
       go true e h =
-          let t = and-true (eqb (early_code c d) 0) (not (list_outside c n)) e in
+          let t = and_parts (eqb (early_code c d) 0) (not (list_outside c n)) e in
           record {
             sgm = sym (in_listed m c) ∙ ap not (ne_eqb (length xs) 0 h);
             early = eqb-true (early_code c d) 0 t.0;
@@ -112,8 +112,8 @@ module _ (c : Copied) (d : Drive) (m : List ℕ) where
 
     has_list : HasList c
     has_list =
-        let row = or-false (ltb read (command_in c.byte0) || gathers c && eqb (command_in c.byte0) nop) (not (eqb c.subfunction 0)) before.command.1.0 in
-        let most = ltb-false read (command_in c.byte0) (or-false (ltb read (command_in c.byte0)) (gathers c && eqb (command_in c.byte0) nop) row.0).0 in
+        let row = or_parts (ltb read (command_in c.byte0) || gathers c && eqb (command_in c.byte0) nop) (not (eqb c.subfunction 0)) before.command.1.0 in
+        let most = ltb-false read (command_in c.byte0) (or_parts (ltb read (command_in c.byte0)) (gathers c && eqb (command_in c.byte0) nop) row.0).0 in
         let some = eqb-false (command_in c.byte0) nop other in
         (go (means_eq (command_in c.byte0) write) most some, eqb-true (bit 4 c.byte0) 1 w.sgm)
       where
@@ -174,7 +174,7 @@ module _ (c : Copied) (d : Drive) (m : List ℕ) where
 
   read_listed : WasRead → xs ≡ links_at m c.address (link_count c)
   unfolding links_in
-  read_listed w = stop (gathers c) (links_at m c.address (link_count c)) [] w.sgm
+  read_listed w = cond-true (gathers c) (links_at m c.address (link_count c)) [] w.sgm
 
   -- a code of 00 says that it was read, and that the lengths add up to the sectors
   module _ (g : gathers c ≡ true) (e : code_of c d n xs ≡ 0) where

@@ -10,13 +10,13 @@ use mathlib.Core.Bool.{false, true≢false}
 use mathlib.Core.List.{List, [], ◌∷◌, map}
 use lib.ListN.{length, get_or, take}
 use borrow.Author.Tests.{lt-ltb, le-ltb}
+use Rattle.std.proofs.lemmas.Bool.{cond-false, cond-true}
 use Rattle.meaning.specs.Store.{Space, same, Store, area, Move, copy, move, moves}
 use Rattle.meaning.specs.Links.{bytes_in}
 use Rattle.meaning.specs.Pieces.{Piece, byte_at}
 use Rattle.meaning.specs.Conditions.{Within, SomeOf}
 use Rattle.meaning.proofs.All.{All, all_map}
 use Rattle.meaning.proofs.Means.{is_true}
-use Rattle.meaning.proofs.Rows.{pass, stop}
 use Rattle.meaning.proofs.Spaces.{AsLong, length_moves}
 use Rattle.meaning.proofs.Ranges.{means_same}
 use Rattle.meaning.proofs.Pieces.{Holds, Sorted}
@@ -88,7 +88,7 @@ module _ (Q P : Space) (other : same Q P ≡ false) (from to : Piece → ℕ) (S
 
 pub byte_of_range : ByteOfRange
 byte_of_range [] k o h l = absurd (not-suc-le-zero h)
-byte_of_range (x ∷ rs) zero o h l = ap (byte_at (x ∷ rs)) (zero-add o) ∙ stop _ _ _ (lt-ltb o x.many l)
+byte_of_range (x ∷ rs) zero o h l = ap (byte_at (x ∷ rs)) (zero-add o) ∙ cond-true _ _ _ (lt-ltb o x.many l)
 byte_of_range (x ∷ rs) (suc k) o h l =
     let at : x.many + bytes_in (take k rs) + o - x.many ≡ bytes_in (take k rs) + o = omega arith in
-    pass _ _ _ (le-ltb (x.many + bytes_in (take k rs) + o) x.many (omega arith)) ∙ ap (byte_at rs) at ∙ byte_of_range rs k o (le_of_suc-le-suc h) l
+    cond-false _ _ _ (le-ltb (x.many + bytes_in (take k rs) + o) x.many (omega arith)) ∙ ap (byte_at rs) at ∙ byte_of_range rs k o (le_of_suc-le-suc h) l
