@@ -9,7 +9,7 @@ use mathlib.Core.Bool.{Bool, true, false, not, ◌&&◌, or_assoc, true≢false}
 use mathlib.Core.List.{List, [], ◌∷◌}
 use lib.ListN.{length}
 use lib.Dec.{leb, eqb}
-use Rattle.std.proofs.lemmas.Bool.{not-false, not-true}
+use Rattle.std.proofs.lemmas.Bool.{not-false}
 use Rattle.meaning.specs.declared.Drive.{Drive}
 use Rattle.meaning.specs.declared.Record.{Record}
 use Rattle.meaning.specs.Store.{memory, disk, Store}
@@ -25,7 +25,7 @@ use Rattle.meaning.specs.Touch.{data_bytes}
 use Rattle.meaning.specs.Command.{reads, writes, transfers, steps_of, finished, no_record}
 use Rattle.meaning.specs.Pick.{bad_transfer, bad_record, spoiled}
 use Rattle.meaning.specs.Conditions.{MaximaWrong, ImageWrong, Present, Absent, ImagesWrong, StoreWrong, SizesWrong, Reads, Writes, Finished, SomeOf, Outside, BadTransfer, BadRecord, Spoiled}
-use Rattle.meaning.proofs.Means.{Means, holds, fails, when_true, when_false, is_false, means_test, means_below, means_itself, means_and, means_or, means_or₃, means_not-and, means_above, means_other, means_lt, means_le, means_eq, means_of, means_some}
+use Rattle.meaning.proofs.Means.{Means, holds, fails, when_true, when_false, is_false, means_below, means_itself, means_off, means_and, means_or, means_or₃, means_not-and, means_above, means_other, means_lt, means_le, means_eq, means_of, means_some}
 use Rattle.meaning.proofs.All.{All}
 
 -- ---- sizes
@@ -46,7 +46,7 @@ pub means_present : (d : Drives) (u : ℕ) → Means (Present d u) (d.on u).pres
 means_present d u = means_itself (d.on u).present
 
 pub means_absent : (d : Drives) (u : ℕ) → Means (Absent d u) (not (d.on u).present)
-means_absent d u = means_test (not (d.on u).present) (not-true (d.on u).present) (λ e f. true≢false (sym (not-false (d.on u).present e) ∙ f))
+means_absent d u = means_off (d.on u).present
 
 pub means_images : (d : Drives) (s : Store) → Means (ImagesWrong d s) (images_wrong d s)
 unfolding images_wrong unit_wrong

@@ -14,7 +14,7 @@ use Rattle.meaning.specs.Command.{reads, writes, finished, no_record}
 use Rattle.meaning.specs.Touch.{Touched, data_bytes, status_bytes, sectors, touched_by, touched, disturbs, conflict}
 use Rattle.meaning.specs.Pick.{waits}
 use Rattle.meaning.specs.Conditions.{LiesIn, Reads, Writes, ReadsAt, WritesAt, Disturbs, Conflict, Finished, Waits}
-use Rattle.meaning.proofs.Means.{Means, holds, fails, means_iff, means_not, means_and, means_or, means_some}
+use Rattle.meaning.proofs.Means.{Means, holds, fails, means_iff, means_opposite, means_and, means_or, means_some}
 use Rattle.meaning.proofs.Ranges.{InSome, means_meet}
 use Rattle.meaning.proofs.Conditions.{not_both, means_reads, means_writes, means_finished}
 
@@ -106,4 +106,4 @@ unfolding waits
 means_waits t p = means_some waits_for no_record p t
   where
     waits_for : (e : Record) → Means ((¬ Finished e) × Conflict e (get_or t p no_record)) (not (finished e) && conflict e (get_or t p no_record))
-    waits_for e = means_and (means_not (λ h n. n h) (λ n. n) (means_finished e)) (means_conflict e (get_or t p no_record))
+    waits_for e = means_and (means_opposite (means_finished e)) (means_conflict e (get_or t p no_record))

@@ -13,6 +13,7 @@ use lib.Seq.{take-append_seam, take_all, drop-cons, set_at}
 use lib.Dec.{eqb, lit≤}
 use borrow.Author.Tests.{ne_eqb}
 use Rattle.std.proofs.lemmas.Bool.{or_left}
+use Rattle.std.proofs.lemmas.List.{take_min}
 use Rattle.meaning.specs.declared.Copied.{Copied}
 use Rattle.meaning.specs.declared.Link.{Link}
 use Rattle.meaning.specs.Each.{some_of, up_to}
@@ -80,12 +81,6 @@ in_listed m c = go (gathers c)
 
 -- ---- a loop through the first n of a list, which holds 32
 
-take_held : (list : List Link) (n : ℕ) → length list ≡ most_links → take n list ≡ take (min n most_links) list
-take_held list n e = elim (dec_le n most_links) [ yes h ↦ ap (λ (k : ℕ). take k list) (sym (min-eq_left h)) | no h ↦ all (omega arith) ]
-  where
-    all : most_links ≤ n → take n list ≡ take (min n most_links) list
-    all h = take_all n list (omega arith) ∙ sym (take_all most_links list (omega arith)) ∙ ap (λ (k : ℕ). take k list) (sym (min-eq_right h))
-
 -- at place k, of `last` places: what a loop keeps of its array
 pub record Going (n : ℕ) (list : List Link) (last k : ℕ) : Type 0 where
   pub most : k ≤ last
@@ -95,7 +90,7 @@ pub record Going (n : ℕ) (list : List Link) (last k : ℕ) : Type 0 where
 
 module _ (n : ℕ) (list : List Link) where
   pub going_start : (last : ℕ) → last ≡ min n most_links → length list ≡ most_links → Going n list last 0
-  going_start last e l = record { most = zero-le; few = omega (arith, min-le_right n most_links); long = l; held = take_held list n l ∙ ap (λ (k : ℕ). take k list) (sym e) }
+  going_start last e l = record { most = zero-le; few = omega (arith, min-le_right n most_links); long = l; held = sym (take_min n list) ∙ ap (λ (k : ℕ). take k list) (ap (min n) l ∙ sym e) }
 
   module _ (last k : ℕ) (g : Going n list last k) where
     short : last ≤ length list

@@ -50,6 +50,9 @@ module _ {P : Type 0} where
   means_not f g (holds p) = fails (f p)
   means_not f g (fails n) = holds (g n)
 
+  pub means_opposite : {b : Bool} → Means P b → Means (¬ P) (not b)
+  means_opposite m = means_not (λ h n. n h) (λ n. n) m
+
   module _ {Q : Type 0} where
     pub means_and : {a b : Bool} → Means P a → Means Q b → Means (P × Q) (a && b)
     means_and (holds p) (holds q) = holds (p, q)
@@ -81,6 +84,11 @@ means_test false f g = fails (g refl)
 pub means_itself : (b : Bool) → Means (b ≡ true) b
 means_itself b = means_test b (λ e. e) (λ e f. true≢false (sym f ∙ e))
 
+-- a mark that is not set
+pub means_off : (b : Bool) → Means (b ≡ false) (not b)
+means_off true = fails true≢false
+means_off false = holds refl
+
 -- the tests of numbers
 pub means_lt : (a b : ℕ) → Means (a < b) (ltb a b)
 means_lt a b = means_test (ltb a b) (ltb-true a b) (λ e. omega (arith, ltb-false a b e))
@@ -95,7 +103,7 @@ pub means_above : (a b : ℕ) → Means (b < a) (not (leb a b))
 means_above a b = means_not (λ h k. omega arith) (λ n. omega arith) (means_le a b)
 
 pub means_other : (a b : ℕ) → Means (a ≢ b) (not (eqb a b))
-means_other a b = means_not (λ h n. n h) (λ n. n) (means_eq a b)
+means_other a b = means_opposite (means_eq a b)
 
 -- one of a list
 pub means_of : {A : Type 0} {P : A → Type 0} {p : A → Bool} → ((x : A) → Means (P x) (p x)) → (xs : List A) → Means (SomeOf P xs) (some_of p xs)
@@ -127,11 +135,11 @@ module _ {A : Type 0} {P : A → Type 0} {p : A → Bool} (means : (x : A) → M
   means_some (suc n) (x ∷ l) = means_iff (some_of_more n x l) (means_or (means x) (means_some n l))
 
 -- one of the numbers below n
-module _ {P : ℕ → Type 0} {p : ℕ → Bool} (means : (k : ℕ) → Means (P k) (p k)) where
-  abbrev Below : ℕ → Type 0
+module _ (P : ℕ → Type 0) where
+  abbrev pub Below : ℕ → Type 0
   Below n = (k : ℕ) × (k < n) × P k
 
-  below_more : (n : ℕ) → (Below n ⊎ P n) ↔ Below (suc n)
+  pub below_more : (n : ℕ) → (Below n ⊎ P n) ↔ Below (suc n)
   below_more n = (there, λ b. at b.0 (means_eq b.0 n) b.1 b.2)
     where
       there : Below n ⊎ P n → Below (suc n)
@@ -142,6 +150,7 @@ module _ {P : ℕ → Type 0} {p : ℕ → Bool} (means : (k : ℕ) → Means (P
       at k (holds e) l h = inr (subst P e h)
       at k (fails o) l h = inl (k, omega arith, h)
 
-  pub means_below : (n : ℕ) → Means (Below n) (some_of p (up_to n))
+module _ {P : ℕ → Type 0} {p : ℕ → Bool} (means : (k : ℕ) → Means (P k) (p k)) where
+  pub means_below : (n : ℕ) → Means (Below P n) (some_of p (up_to n))
   means_below zero = fails (λ b. not-suc-le-zero b.1)
-  means_below (suc n) = rw (list_any-append p (up_to n) (n ∷ []), or-false (p n)) (means_iff (below_more n) (means_or (means_below n) (means n)))
+  means_below (suc n) = rw (list_any-append p (up_to n) (n ∷ []), or-false (p n)) (means_iff (below_more P n) (means_or (means_below n) (means n)))

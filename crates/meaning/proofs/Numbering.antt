@@ -10,24 +10,12 @@ use mathlib.Core.Option.{Option, some, none}
 use lib.Dec.{eqb, ltb}
 use borrow.Author.Tests.{eq-eqb, ne_eqb, leb-true, ltb-true, ltb-false}
 use Rattle.std.proofs.lemmas.Bool.{cond-false, cond-true}
+use Rattle.std.proofs.lemmas.Nat.{mul-add-lt, div-mul-add, mod-mul-add}
 use Rattle.meaning.specs.declared.Drive.{Drive}
 use Rattle.meaning.specs.declared.Place.{Place}
 use Rattle.meaning.specs.Sectors.{count_of, per_track, per_last_track, maximum_on, per_cylinder, sector_count, largest_sector, sector_number, maxima_right}
 use Rattle.meaning.specs.Place.{place_at, OnDrive, number_of, place_after, Follows, place_of}
 use Rattle.meaning.proofs.Conditions.{some_sector}
-
--- whole b's and a rest, taken apart again
-parts : (b x r : ℕ) → r < b → ((x * b + r) / b ≡ x) × ((x * b + r) % b ≡ r)
-parts b x r h =
-    let z : 0 < b = omega arith in
-    (mul-add-div_right z x r ∙ ap (λ (k : ℕ). x + k) (div-eq_of_lt h) ∙ add-zero x, mul-add-mod_self_right x b r ∙ mod-eq_of_lt h)
-
--- one more b than x of them, and no more than y of them
-next : (b x y r : ℕ) → r < b → x < y → x * b + r < y * b
-next b x y r h l =
-    let m : suc x * b ≤ y * b = mul-le-mul {n₂ = y} {m₂ = b} l (le_refl b) in
-    let e : suc x * b ≡ x * b + b = omega (arith, add-mul x 1 b) in
-    omega arith
 
 module _ (d : Drive) where
   -- ---- the maximum of a head
@@ -60,7 +48,7 @@ module _ (d : Drive) where
       go (inl e) s = let m = ap (maximum_on d) e ∙ on_last in let p = ap (λ (k : ℕ). k * per_track d) e in omega arith
       go (inr l) s =
           let m = on_other head (λ e. omega arith) in
-          let b = next (per_track d) head d.head sector (omega arith) l in
+          let b = mul-add-lt head (per_track d) sector d.head l (omega arith) in
           omega arith
 
   -- the number of a place is one of the drive's
@@ -68,7 +56,7 @@ module _ (d : Drive) where
   unfolding sector_number sector_count
   number_below p h =
       let x = in_cylinder p.head p.sector h.head_in h.sector_in in
-      let y = next (per_cylinder d) p.cylinder (d.cylinder + 1) (p.head * per_track d + p.sector) x (omega (arith, h.cylinder_in)) in
+      let y = mul-add-lt p.cylinder (per_cylinder d) (p.head * per_track d + p.sector) (d.cylinder + 1) (omega (arith, h.cylinder_in)) x in
       omega arith
 
   -- ---- the place after a place
@@ -170,9 +158,9 @@ module _ (d : Drive) where
     place_of_number p h =
         let r = p.head * per_track d + p.sector in
         let e : number_of d p ≡ p.cylinder * per_cylinder d + r = omega arith in
-        let c = parts (per_cylinder d) p.cylinder r (in_cylinder p.head p.sector h.head_in h.sector_in) in
-        let t = parts (per_track d) p.head p.sector (omega (arith, within_track p.head, h.sector_in)) in
-        rw (e, c.0, c.1, t.0, t.1) refl
+        let c = in_cylinder p.head p.sector h.head_in h.sector_in in
+        let t : p.sector < per_track d = omega (arith, within_track p.head, h.sector_in) in
+        rw (e, div-mul-add p.cylinder (per_cylinder d) r c, mod-mul-add p.cylinder (per_cylinder d) r c, div-mul-add p.head (per_track d) p.sector t, mod-mul-add p.head (per_track d) p.sector t) refl
 
     -- what is left of a cylinder: its head and sector are within their maxima
     head_fits : (rest : ℕ) → rest < per_cylinder d → rest / per_track d ≤ d.head

@@ -8,7 +8,7 @@ use mathlib.Core.List.{List, [], ◌∷◌}
 use lib.ListN.{length, get_or, take}
 use lib.Dec.{ltb, eqb}
 use borrow.Author.Tests.{ltb-false, le-ltb, leb-false, lt-leb, eq-eqb}
-use Rattle.std.proofs.lemmas.Bool.{and_parts, or_parts}
+use Rattle.std.proofs.lemmas.Bool.{cond-true, and_parts, or_parts}
 use Rattle.meaning.specs.Drives.{Drives}
 use Rattle.meaning.specs.declared.Record.{Record}
 use Rattle.meaning.specs.First.{Row, first_in, first_of}
@@ -17,7 +17,7 @@ use Rattle.meaning.specs.State.{State, most_commands}
 use Rattle.meaning.specs.Sizes.{store_wrong, sizes_wrong}
 use Rattle.meaning.specs.Command.{finished, no_record}
 use Rattle.meaning.specs.Pick.{bad_record, spoiled, waits, place_number, pick_number, run_rows, place_rows}
-use Rattle.meaning.specs.Run.{run_number}
+use Rattle.meaning.specs.Run.{Tally, run_number, ran_to}
 use Rattle.meaning.proofs.Loops.{none_at}
 use Rattle.meaning.proofs.All.{All}
 
@@ -27,22 +27,7 @@ use Rattle.meaning.proofs.All.{All}
 abbrev pub Off : Row → Type 0
 Off r = r.applies ≡ false
 
--- a row that gives another number than 0, or is known not to apply
-abbrev pub told : Row → Bool
-told r = ltb 0 r.gives || not r.applies
-
-row_off : (b : Bool) (k x : ℕ) → cond b k x ≡ 0 → (ltb 0 k || not b) ≡ true → (b ≡ false) × (x ≡ 0)
-row_off true k x e h = absurd (false≢true (rw e at h))
-row_off false k x e h = (refl, e)
-
-pub rows_off : (rows : List Row) (z : ℕ) → first_of rows z ≡ 0 → every_of told rows ≡ true → All Off rows
-rows_off [] z e h = tt
-rows_off (r ∷ rows) z e h =
-    let t = and_parts (told r) (every_of told rows) h in
-    let q = row_off r.applies r.gives (first_of rows z) e t.0 in
-    (q.0, rows_off rows z q.1 t.1)
-
--- the same of any other number: no row applies that gives another than N, or is known not to apply, where N is given
+-- a row that gives another number than N, or is known not to apply: where N is given, it does not apply
 abbrev pub told_but : ℕ → Row → Bool
 told_but N r = not (eqb r.gives N) || not r.applies
 
@@ -56,6 +41,9 @@ rows_but N (r ∷ rows) z e h =
     go : (b : Bool) → cond b r.gives (first_of rows z) ≡ N → (not (eqb r.gives N) || not b) ≡ true → (b ≡ false) × (first_of rows z ≡ N)
     go true e h = absurd (false≢true (rw (eq-eqb r.gives N e) at h))
     go false e h = (refl, e)
+
+pub rows_off : (rows : List Row) (z : ℕ) → first_of rows z ≡ 0 → every_of (told_but 0) rows ≡ true → All Off rows
+rows_off rows z e h = rows_but 0 rows z e h
 
 -- no row applies: the number is the last one, in every column
 pub off_last_in : (column : Row → ℕ) (rows : List Row) (z : ℕ) → All Off rows → first_in column rows z ≡ z
@@ -123,6 +111,11 @@ module _ (d : Drives) (n : ℕ) (s : State) where
   pub passed_run : Passed d n s → run_number d n s ≡ 0
   unfolding run_number
   passed_run h = passed_rows 0 h
+
+  -- a run comes to what its steps come to then
+  pub ran_0 : (go : State → Tally) → run_number d n s ≡ 0 → ran_to d n go s ≡ go s
+  unfolding ran_to
+  ran_0 go e = cond-true _ _ _ (eq-eqb _ _ e)
 
   pub passed_place : (p : ℕ) → Passed d n s → pick_number d n p s ≡ place_number s.table n p
   unfolding pick_number

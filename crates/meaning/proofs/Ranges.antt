@@ -12,13 +12,17 @@ use Rattle.meaning.specs.Fields.{iopb_bytes}
 use Rattle.meaning.specs.Ranges.{Range, bytes, crosses, overlap, meet}
 use Rattle.meaning.specs.Walk.{shares}
 use Rattle.meaning.specs.Conditions.{LiesIn, Shares, SomeOf, OverlapIsSharing}
-use Rattle.meaning.proofs.Means.{Means, holds, fails, when_true, is_true, same_test, means_iff, means_and, means_or, means_lt, means_eq}
+use Rattle.meaning.proofs.Means.{Means, holds, fails, when_true, when_false, is_true, same_test, means_iff, means_and, means_or, means_lt, means_eq}
 
 pub means_same : (p q : Space) → Means (p ≡ q) (same p q)
 means_same memory memory = holds refl
 means_same memory (disk v) = fails (λ e. let z : ◌≡◌ {A = ℕ} 0 1 = cc in omega arith)
 means_same (disk u) memory = fails (λ e. let z : ◌≡◌ {A = ℕ} 0 1 = cc in omega arith)
 means_same (disk u) (disk v) = means_iff (ap disk, λ e. cc) (means_eq u v)
+
+-- a disk is another space than memory
+pub no_memory : (u : ℕ) → ¬ (disk u ≡ memory)
+no_memory u = when_false (means_same (disk u) memory) refl
 
 -- at one place of one space both P and Q hold
 abbrev pub Common : (Space → ℕ → Type 0) → (Space → ℕ → Type 0) → Type 0

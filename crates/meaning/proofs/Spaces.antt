@@ -9,25 +9,20 @@ use mathlib.Core.Bool.{Bool, true, false, cond, false≢true}
 use mathlib.Core.List.{List, [], ◌∷◌, ◌++◌}
 use lib.ListN.{length, take, drop, length-take}
 use lib.Seq.{sets, length-sets}
-use borrow.Author.Tests.{eqb-true, eq-eqb}
 use Rattle.meaning.specs.Store.{Space, memory, disk, same, Store, Area, area, get, put, Move, copy, post, move, moves}
 use Rattle.meaning.proofs.All.{All}
+use Rattle.meaning.proofs.Means.{when_true, is_true}
+use Rattle.meaning.proofs.Ranges.{means_same}
 use Rattle.meaning.proofs.Overwrite.{Apart, sets_comm, read_sets}
 
 -- ---- spaces
 
 pub same_refl : (p : Space) → same p p ≡ true
-same_refl memory = refl
-same_refl (disk u) = eq-eqb u u refl
+same_refl p = is_true (means_same p p) refl
 
 -- two spaces that are the same as a third are the same
 pub same_both : (p q r : Space) → same p q ≡ true → same p r ≡ true → same q r ≡ true
-same_both memory memory memory e f = refl
-same_both memory memory (disk w) e f = absurd (false≢true f)
-same_both memory (disk v) r e f = absurd (false≢true e)
-same_both (disk u) memory r e f = absurd (false≢true e)
-same_both (disk u) (disk v) memory e f = absurd (false≢true f)
-same_both (disk u) (disk v) (disk w) e f = eq-eqb v w (sym (eqb-true u v e) ∙ eqb-true u w f)
+same_both p q r e f = is_true (means_same q r) (sym (when_true (means_same p q) e) ∙ when_true (means_same p r) f)
 
 -- ---- areas
 

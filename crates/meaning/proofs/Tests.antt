@@ -8,21 +8,9 @@ use Rattle.std.proofs.lemmas.Bool.{and_parts, or_from}
 use Rattle.meaning.specs.Each.{some_of, every_of, sum_of}
 use Rattle.meaning.proofs.All.{All}
 
-pub and-false : (a b : Bool) → (a && b) ≡ false → a ≡ true → b ≡ false
-and-false true b e h = e
-and-false false b e h = absurd (false≢true h)
-
-pub and_no : (a : Bool) → (a && false) ≡ false
-and_no true = refl
-and_no false = refl
-
-pub or_no : (a : Bool) → (a || false) ≡ a
-or_no true = refl
-or_no false = refl
-
-pub some_append : {A : Type 0} (p : A → Bool) (xs ys : List A) → some_of p (xs ++ ys) ≡ (some_of p xs || some_of p ys)
-some_append p [] ys = refl
-some_append p (x ∷ xs) ys = ap (λ (b : Bool). p x || b) (some_append p xs ys) ∙ sym (or_assoc (p x) (some_of p xs) (some_of p ys))
+-- for the crates above, under the names that they cite
+pub use mathlib.Core.Bool.{and-false as and_no, or-false as or_no}
+pub use Rattle.std.proofs.lemmas.List.Folds.{list_any-append as some_append}
 
 -- two tests that give the same of each element; and one test or the other
 pub some_same : {A : Type 0} (P : A → Type 0) (f g : A → Bool) → ((x : A) → P x → f x ≡ g x) → (xs : List A) → All P xs → some_of f xs ≡ some_of g xs

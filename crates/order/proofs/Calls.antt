@@ -14,15 +14,15 @@ use Rattle.meaning.specs.declared.Ran.{Ran}
 use Rattle.meaning.specs.State.{State}
 use Rattle.meaning.specs.Pick.{pick_number, step_at, picked, PickGives}
 use Rattle.meaning.specs.Run.{chain_steps, steps_left, run_number, Tally, at_start, one_pick, picks_from, by_picks, as_written, ran_to, run_reply, RunGives}
-use Rattle.meaning.proofs.Numbers.{run_passed, passed_run}
+use Rattle.meaning.proofs.Numbers.{run_passed, passed_run, ran_0}
 use Rattle.order.specs.States.{written_picks, rest}
 use Rattle.order.specs.Calls.{Call, pick, run_by_picks, run_as_written, leaves, takes, after_calls, steps_taken, Makes, MakeAll}
 use Rattle.order.specs.Rest.{CallsThenRest, AnyCallsThenRest, AnyCallsThenRestOfChain, RestFinishes}
 use Rattle.order.specs.Steps.{CallsAddUp, ChainAddsUp}
-use Rattle.order.proofs.Picks.{picks_keep, of_picks}
+use Rattle.order.proofs.Picks.{step_taken, passed_over, picks_keep, of_picks}
 use Rattle.order.proofs.Earliest.{written_is_picks}
 use Rattle.order.proofs.Rest.{larger_does_no_more, picks_then_rest, picks_accepted}
-use Rattle.order.proofs.Steps.{none_left, finished_written, reports_add_up}
+use Rattle.order.proofs.Steps.{none_left, finished_written, tells_number, tells_steps, tells_state, reports_add_up}
 use Rattle.order.proofs.Accepted.{walk_is_sound}
 
 -- ---- a call is some picks
@@ -42,10 +42,10 @@ unfolding by_picks picks_from one_pick picked
 one_pick_lem d n p s = record { picks = p ∷ []; steps = go_steps (eqb (pick_number d n p s) 0); state = go_state (eqb (pick_number d n p s) 0) }
   where
     taken : Tally
-    taken = record { steps = 0 + 1; refused = 0; state = step_at d p s }
+    taken = step_taken d p (at_start s)
 
     over : Tally
-    over = record { steps = 0; refused = 0 + 1; state = s }
+    over = passed_over (at_start s)
 
     go_steps : (x : Bool) → cond x 1 0 ≡ (cond x taken over).steps
     go_steps true = refl
@@ -135,26 +135,12 @@ refused_calls d n (c ∷ cs) s off =
 
 -- ---- the statements
 
-module _ (d : Drives) (n b : ℕ) (s : State) where
-  run_state : (r : Ran) (s' : State) → RunGives d n (as_written d n b) s r s' → s' ≡ (ran_to d n (as_written d n b) s).state
-  unfolding RunGives
-  run_state r s' g = g.1
-
-  run_steps : (r : Ran) (s' : State) → RunGives d n (as_written d n b) s r s' → r.steps ≡ (ran_to d n (as_written d n b) s).steps
-  unfolding RunGives run_reply
-  run_steps r s' g = ap (λ (x : Ran). x.steps) g.0
-
-  run_number_lem : (r : Ran) (s' : State) → RunGives d n (as_written d n b) s r s' → r.number ≡ run_number d n s
-  unfolding RunGives run_reply
-  run_number_lem r s' g = ap (λ (x : Ran). x.number) g.0
-
-  run_0 : run_number d n s ≡ 0 → ran_to d n (as_written d n b) s ≡ as_written d n b s
-  unfolding ran_to
-  run_0 e = cond-true _ _ _ (eq-eqb _ _ e)
-
 pub any_calls_then_rest : AnyCallsThenRest
 any_calls_then_rest d n cs b k s s₁ s₂ s₀ r r₀ g l w w₀ = which (eqb (run_number d n s) 0) refl
   where
+    run : State → Tally
+    run = as_written d n b
+
     made_so : (k ≡ steps_taken d n cs s) × (s₁ ≡ after_calls d n cs s)
     made_so = made_all d n cs s k s₁ g
 
@@ -165,23 +151,23 @@ any_calls_then_rest d n cs b k s s₁ s₂ s₀ r r₀ g l w w₀ = which (eqb (
         let sum = calls_add_up d n cs s k s₁ g in
         let most : steps_left s₁.table n ≤ b = omega arith in
         let same : rest d n s₁ ≡ rest d n s = rw made_so.1 (calls_then_rest d n cs s) in
-        let c₁ = reports_add_up.smaller d n b s₁ r s₂ w (run_number_lem d n b s₁ r s₂ w ∙ e₁) in
-        let c₀ = reports_add_up.smaller d n b s r₀ s₀ w₀ (run_number_lem d n b s r₀ s₀ w₀ ∙ e) in (
-          run_state d n b s₁ r s₂ w
-              ∙ ap (λ (y : Tally). y.state) (run_0 d n b s₁ e₁)
+        let c₁ = reports_add_up.smaller d n b s₁ r s₂ w (tells_number d n run s₁ r s₂ w ∙ e₁) in
+        let c₀ = reports_add_up.smaller d n b s r₀ s₀ w₀ (tells_number d n run s r₀ s₀ w₀ ∙ e) in (
+          tells_state d n run s₁ r s₂ w
+              ∙ ap (λ (y : Tally). y.state) (ran_0 d n s₁ run e₁)
               ∙ larger_does_no_more d n b s₁ e₁ most
               ∙ same
               ∙ sym (larger_does_no_more d n b s e l)
-              ∙ sym (ap (λ (y : Tally). y.state) (run_0 d n b s e))
-              ∙ sym (run_state d n b s r₀ s₀ w₀),
+              ∙ sym (ap (λ (y : Tally). y.state) (ran_0 d n s run e))
+              ∙ sym (tells_state d n run s r₀ s₀ w₀),
           let i = c₁.1 in let j = c₀.1 in omega arith,
         )
     which false x =
         let h = refused_calls d n cs s (eqb-false (run_number d n s) 0 x) in
         let same : s₁ ≡ s = made_so.1 ∙ h.0 in
         let none : k ≡ 0 = made_so.0 ∙ h.1 in (
-          run_state d n b s₁ r s₂ w ∙ ap (λ (u : State). (ran_to d n (as_written d n b) u).state) same ∙ sym (run_state d n b s r₀ s₀ w₀),
-          let i = run_steps d n b s₁ r s₂ w ∙ ap (λ (u : State). (ran_to d n (as_written d n b) u).steps) same ∙ sym (run_steps d n b s r₀ s₀ w₀) in omega arith,
+          tells_state d n run s₁ r s₂ w ∙ ap (λ (u : State). (ran_to d n run u).state) same ∙ sym (tells_state d n run s r₀ s₀ w₀),
+          let i = tells_steps d n run s₁ r s₂ w ∙ ap (λ (u : State). (ran_to d n run u).steps) same ∙ sym (tells_steps d n run s r₀ s₀ w₀) in omega arith,
         )
 
 pub any_calls_then_rest_of_chain : AnyCallsThenRestOfChain

@@ -21,7 +21,8 @@ use Rattle.meaning.specs.Touch.{conflict}
 use Rattle.meaning.specs.Step.{step, stepped}
 use Rattle.meaning.specs.Pick.{waits, pick_number, step_at}
 use Rattle.meaning.specs.Run.{all_finished, run_number, Tally, at_start, one_pick, picks_from, by_picks, written, as_written}
-use Rattle.meaning.proofs.Tests.{and-false, every_none}
+use Rattle.meaning.proofs.Rows.{and_second}
+use Rattle.meaning.proofs.Tests.{every_none}
 use Rattle.meaning.proofs.Numbers.{Free, free_place, run_passed, passed_pick, in_table}
 use Rattle.meaning.proofs.Records.{unfinished_some}
 use Rattle.meaning.proofs.Still.{still_accepted}
@@ -71,7 +72,7 @@ some_command (r ∷ rs) (suc n) e = go (finished r) refl (some_command rs n)
   where
     go : (x : Bool) → finished r ≡ x → (every_of finished (take n rs) ≡ false → Earliest rs n (earliest rs))
         → Earliest (r ∷ rs) (suc n) (cond x (suc (earliest rs)) 0)
-    go true f later = earliest_past r rs n (earliest rs) f (later (and-false (finished r) (every_of finished (take n rs)) e f))
+    go true f later = earliest_past r rs n (earliest rs) f (later (sym (and_second (finished r) (every_of finished (take n rs)) f) ∙ e))
     go false f later = record { in_use = zero-lt-suc n; unfinished = f; before = refl }
 
 pub earliest_is_there : EarliestIsThere
@@ -96,7 +97,7 @@ one_step d b (r ∷ rs) s (suc p) h =
 -- ---- in a table of which the first n records are in use
 
 -- the other records behind what y has come to
-abbrev rejoin : List Record → Tally → Tally
+abbrev pub rejoin : List Record → Tally → Tally
 rejoin more y =
     record { steps = y.steps; refused = y.refused; state = record { table = y.state.table ++ more; store = y.state.store } }
 

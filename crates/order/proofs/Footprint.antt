@@ -8,7 +8,7 @@ use mathlib.Core.Bool.{Bool, true, false, ◌||◌, cond}
 use mathlib.Core.List.{List, [], ◌∷◌, ◌++◌, map}
 use lib.Dec.{eqb}
 use borrow.Author.Tests.{ltb-false}
-use Rattle.std.proofs.lemmas.Bool.{or_parts}
+use Rattle.std.proofs.lemmas.Bool.{or_parts, cond_both}
 use Rattle.meaning.specs.Drives.{Drives}
 use Rattle.meaning.specs.declared.Record.{Record}
 use Rattle.meaning.specs.Each.{some_of}
@@ -151,16 +151,12 @@ close_keeps true wr d r = record { written = inside_right (area memory r.iopb 4)
 close_keeps false true d r = record { written = there (here (status_lies r)); read = tt }
 close_keeps false false d r = record { written = here (status_lies r); read = tt }
 
-all-cond : (P : Move → Type 0) (b : Bool) (vs : List Move) → All P vs → All P (cond b vs [])
-all-cond P true vs h = h
-all-cond P false vs h = tt
-
 step_keeps : (d : Drives) (r : Record) → r.taken < steps_of r → All (KeepsTo (touched r)) (step_moves d r)
 unfolding steps_of touched step_moves sector_move close_move
 step_keeps d r h =
     all_append (KeepsTo (touched r)) (sector_move r r.taken) (cond (eqb (r.taken + 1) (steps_of r)) (close_move d r) [])
     (sector_keeps (reads r) (writes r) r r.taken h)
-    (all-cond (KeepsTo (touched r)) (eqb (r.taken + 1) (steps_of r)) (close_move d r) (close_keeps (reads r) (writes r) d r, tt))
+    (cond_both (eqb (r.taken + 1) (steps_of r)) (close_move d r) [] (All (KeepsTo (touched r))) (λ _. (close_keeps (reads r) (writes r) d r, tt)) (λ _. tt))
 
 -- ---- steps
 

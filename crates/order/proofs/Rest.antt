@@ -20,8 +20,8 @@ use Rattle.meaning.specs.Touch.{conflict}
 use Rattle.meaning.specs.Step.{step, stepped}
 use Rattle.meaning.specs.Pick.{waits, step_at}
 use Rattle.meaning.specs.Run.{steps_left, run_number, Tally, by_picks, advanced, steps_done, written, as_written, ran_to}
-use Rattle.meaning.proofs.Tests.{and-false}
-use Rattle.meaning.proofs.Numbers.{Free, free_place, Passed, passed_run, in_table}
+use Rattle.meaning.proofs.Rows.{and_second}
+use Rattle.meaning.proofs.Numbers.{Free, free_place, Passed, passed_run, ran_0, in_table}
 use Rattle.meaning.proofs.Records.{some_unfinished, unfinished_some, remaining_stepped, conflict_stepped}
 use Rattle.meaning.proofs.Still.{passed_step}
 use Rattle.order.specs.States.{rest}
@@ -73,9 +73,9 @@ unfolding as_written steps_left
 as_written_finish d n b s h = ap (joined (drop n s.table)) (written_finish d b (take n s.table) s.store h)
 
 rest_finish : (d : Drives) (n : ℕ) (s : State) → run_number d n s ≡ 0 → rest d n s ≡ all_done d n s
-unfolding rest ran_to
+unfolding rest
 rest_finish d n s e =
-    ap (λ (y : Tally). y.state) (cond-true _ _ _ (eq-eqb _ _ e))
+    ap (λ (y : Tally). y.state) (ran_0 d n s (as_written d n (steps_left s.table n)) e)
     ∙ as_written_finish d n (steps_left s.table n) s (le_refl (steps_left s.table n))
 
 pub larger_does_no_more : LargerDoesNoMore
@@ -88,7 +88,7 @@ clear : (d : Drives) (c : Record) (es : List Record) → some_of (λ e. not (fin
 clear d c [] w = tt
 clear d c (e ∷ es) w =
     let h = or_parts (not (finished e) && conflict e c) (some_of (λ q. not (finished q) && conflict q c) es) w in
-    (λ l. and-false (not (finished e)) (conflict e c) h.0 (ap not (some_unfinished e l)), clear d c es h.1)
+    (λ l. sym (and_second (not (finished e)) (conflict e c) (ap not (some_unfinished e l))) ∙ h.0, clear d c es h.1)
 
 finish_pick : (d : Drives) (n p : ℕ) (t : List Record) (s : Store) → n ≤ length t → Free t n p
     → let r = get_or t p no_record in

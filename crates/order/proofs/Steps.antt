@@ -13,6 +13,7 @@ use Rattle.meaning.specs.declared.Ran.{Ran}
 use Rattle.meaning.specs.State.{State}
 use Rattle.meaning.specs.Run.{steps_left, all_finished, run_number, Tally, by_picks, as_written, ran_to, run_reply, RunGives}
 use Rattle.meaning.proofs.Counts as counts
+use Rattle.meaning.proofs.Numbers.{ran_0}
 use Rattle.order.specs.States.{written_picks}
 use Rattle.order.specs.Steps.{NoneLeft, ReportsAddUp}
 use Rattle.order.proofs.Picks.{of_picks, every_pick}
@@ -54,37 +55,44 @@ finished_written d n b s e =
 
 -- ---- what they report
 
--- a run that gives 0 comes to what it says
-module _ (d : Drives) (n : ℕ) (go : State → Tally) (s : State) (r : Ran) (s' : State) (g : RunGives d n go s r s') (e : r.number ≡ 0) where
-  pub passed_run_0 : run_number d n s ≡ 0
+-- the parts of its reply, and the state that it leaves
+module _ (d : Drives) (n : ℕ) (go : State → Tally) (s : State) (r : Ran) (s' : State) (g : RunGives d n go s r s') where
+  pub tells_number : r.number ≡ run_number d n s
   unfolding RunGives run_reply
-  passed_run_0 = sym (ap (λ (x : Ran). x.number) g.0) ∙ e
+  tells_number = ap (λ (x : Ran). x.number) g.0
 
-  abbrev y : Tally
-  y = go s
-
-  ran_is : ran_to d n go s ≡ y
-  unfolding ran_to
-  ran_is = cond-true _ _ _ (eq-eqb _ _ passed_run_0)
-
-  pub reports_steps : r.steps ≡ y.steps
+  pub tells_steps : r.steps ≡ (ran_to d n go s).steps
   unfolding RunGives run_reply
-  reports_steps = ap (λ (x : Ran). x.steps) g.0 ∙ ap (λ (x : Tally). x.steps) ran_is
+  tells_steps = ap (λ (x : Ran). x.steps) g.0
 
-  pub reports_refused : r.refused ≡ y.refused
-  unfolding RunGives run_reply
-  reports_refused = ap (λ (x : Ran). x.refused) g.0 ∙ ap (λ (x : Tally). x.refused) ran_is
-
-  pub reports_finished : r.finished ≡ all_finished y.state.table n
-  unfolding RunGives run_reply
-  reports_finished =
-      ap (λ (x : Ran). x.finished) g.0
-      ∙ cond-true _ _ _ (eq-eqb _ _ passed_run_0)
-      ∙ ap (λ (x : Tally). all_finished x.state.table n) ran_is
-
-  pub leaves_state : s' ≡ y.state
+  pub tells_state : s' ≡ (ran_to d n go s).state
   unfolding RunGives
-  leaves_state = g.1 ∙ ap (λ (x : Tally). x.state) ran_is
+  tells_state = g.1
+
+  -- a run that gives 0 comes to what it says
+  module _ (e : r.number ≡ 0) where
+    pub passed_run_0 : run_number d n s ≡ 0
+    passed_run_0 = sym tells_number ∙ e
+
+    ran_is : ran_to d n go s ≡ go s
+    ran_is = ran_0 d n s go passed_run_0
+
+    pub reports_steps : r.steps ≡ (go s).steps
+    reports_steps = tells_steps ∙ ap (λ (x : Tally). x.steps) ran_is
+
+    pub reports_refused : r.refused ≡ (go s).refused
+    unfolding RunGives run_reply
+    reports_refused = ap (λ (x : Ran). x.refused) g.0 ∙ ap (λ (x : Tally). x.refused) ran_is
+
+    pub reports_finished : r.finished ≡ all_finished (go s).state.table n
+    unfolding RunGives run_reply
+    reports_finished =
+        ap (λ (x : Ran). x.finished) g.0
+        ∙ cond-true _ _ _ (eq-eqb _ _ passed_run_0)
+        ∙ ap (λ (x : Tally). all_finished x.state.table n) ran_is
+
+    pub leaves_state : s' ≡ (go s).state
+    leaves_state = tells_state ∙ ap (λ (x : Tally). x.state) ran_is
 
 pub reports_add_up : ReportsAddUp
 reports_add_up =

@@ -17,6 +17,9 @@ use Rattle.meaning.specs.Pick.{spoiled, pick_number, step_at, picked}
 use Rattle.meaning.specs.Run.{all_finished, run_number, Tally, at_start, one_pick, picks_from, advanced, steps_done, written, as_written, ran_to, run_reply}
 use Rattle.meaning.proofs.Spaces.{AsLong}
 use Rattle.meaning.proofs.Still.{step_keeps_lengths, store_as_long, bad_as_long}
+use Rattle.order.proofs.Picks.{step_taken, passed_over}
+use Rattle.order.proofs.Written.{front}
+use Rattle.order.proofs.Earliest.{rejoin}
 use Rattle.promises.proofs.ByteTwo.{step_same}
 use Rattle.promises.proofs.Agree.{Agree, pick_same, run_same}
 
@@ -69,18 +72,11 @@ module _ (d e : Drives) (agree : Agree d e) where
     written_same b [] s = refl
     written_same b (r ∷ rs) s =
         let k = min b (remaining r) in
-        ap
-        (λ (y : Tally).
-        record { steps = k + y.steps; refused = y.refused; state = record { table = advanced k r ∷ y.state.table; store = y.state.store } })
-        (written_same (b - k) rs (steps_done d k r s) ∙ ap (written e (b - k) rs) (done_same k r s))
+        ap (front k r) (written_same (b - k) rs (steps_done d k r s) ∙ ap (written e (b - k) rs) (done_same k r s))
 
     pub as_written_same : (n b : ℕ) (s : State) → as_written d n b s ≡ as_written e n b s
     unfolding as_written
-    as_written_same n b s =
-        ap
-        (λ (y : Tally).
-        record { steps = y.steps; refused = y.refused; state = record { table = y.state.table ++ drop n s.table; store = y.state.store } })
-        (written_same b (take n s.table) s.store)
+    as_written_same n b s = ap (rejoin (drop n s.table)) (written_same b (take n s.table) s.store)
 
     pub ran_same : (n : ℕ) (go go' : State → Tally) (s : State) → go s ≡ go' s → ran_to d n go s ≡ ran_to e n go' s
     unfolding ran_to
@@ -114,8 +110,8 @@ module _ (d e : Drives) (agree : Agree d e) where
   one_pick_counts n p y y' c long = rw (pick_same d e agree n p y.state ∙ number_as_long e n p y.state y'.state c.table long) (go (eqb (pick_number e n p y'.state) 0))
     where
       go : (b : Bool)
-          → let z : Tally = cond b (record { steps = y.steps + 1; refused = y.refused; state = step_at d p y.state }) (record { steps = y.steps; refused = y.refused + 1; state = y.state }) in
-          let z' : Tally = cond b (record { steps = y'.steps + 1; refused = y'.refused; state = step_at e p y'.state }) (record { steps = y'.steps; refused = y'.refused + 1; state = y'.state }) in
+          → let z = cond b (step_taken d p y) (passed_over y) in
+          let z' = cond b (step_taken e p y') (passed_over y') in
           Counts z z' × AsLong z.state.store z'.state.store
       go true = (
         record { steps = ap (λ (k : ℕ). k + 1) c.steps; refused = c.refused; table = ap (λ (t : List Record). set t p (stepped (get_or t p no_record))) c.table },

@@ -19,7 +19,7 @@ use Rattle.meaning.specs.State.{most_commands}
 use Rattle.meaning.specs.Walk.{record_of, shares, goes_on, Chain, refused, accepted, follow}
 use Rattle.meaning.specs.Table.{Given, NoneOf}
 use Rattle.meaning.specs.Conditions.{Shares}
-use Rattle.meaning.proofs.Means.{Means, holds, fails, when_true, when_false, means_iff, means_or, means_not-and, means_above, means_eq, means_other}
+use Rattle.meaning.proofs.Means.{Means, holds, fails, when_true, when_false, means_iff, means_or, below_more, means_not-and, means_above, means_eq, means_other}
 use Rattle.meaning.proofs.Ranges.{means_shares}
 use Rattle.promises.specs.WalkNumbers.{walked_at, reached, OutOfMemory, SharesEarlier, Ends, at_iopb, Comes, InTurn}
 
@@ -42,14 +42,7 @@ module _ (m : List ℕ) (d : Drives) (start : ℕ) where
     means_earlier zero = fails (λ h. not-suc-le-zero h.1)
     means_earlier (suc k) =
         rw list_any-append
-        (means_iff (there, λ h. back h.0 h.1 h.2) (means_or (means_earlier k) (rw or-false (means k))))
-      where
-        there : ((j : ℕ) × (j < k) × P j) ⊎ P k → (j : ℕ) × (j < suc k) × P j
-        there (inl h) = (h.0, omega arith, h.2)
-        there (inr h) = (k, omega arith, h)
-
-        back : (j : ℕ) → j < suc k → P j → ((j : ℕ) × (j < k) × P j) ⊎ P k
-        back = up_to (λ j. P j → ((j : ℕ) × (j < k) × P j) ⊎ P k) (λ j h q. inl (j, h, q)) inr
+        (means_iff (below_more P k) (means_or (means_earlier k) (rw or-false (means k))))
 
   -- the three tests at the k-th IOPB
   means_out : (k : ℕ) → Means (OutOfMemory m start k) (not (all_in m (reached m start k)))

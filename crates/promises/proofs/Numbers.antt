@@ -27,12 +27,12 @@ use Rattle.meaning.specs.Pick.{place_number, pick_number, PickGives}
 use Rattle.meaning.specs.Run.{run_number, run_reply, RunGives}
 use Rattle.meaning.specs.Table.{Given, ◌⇒◌, NoneOf}
 use Rattle.meaning.specs.Conditions.{LiesIn, SomeOf, Absent, ReadsAt, WritesAt, Disturbs, Conflict}
-use Rattle.meaning.proofs.Means.{Means, holds, fails, when_true, when_false, is_true, is_false, means_iff, means_itself, means_and, means_or₃, means_lt, means_le, means_above, means_eq, means_other, means_of}
+use Rattle.meaning.proofs.Means.{Means, holds, fails, when_true, when_false, is_true, is_false, means_iff, means_itself, means_off, means_and, means_or₃, means_lt, means_le, means_above, means_eq, means_other, means_of}
 use Rattle.meaning.proofs.All.{All}
 use Rattle.meaning.proofs.Numbers.{Off, rows_but, off_last}
 use Rattle.meaning.proofs.Table.{otherwise, ◌&◌, by_number, by_place, Asked, no_more, ◌and◌, with_numbers}
 use Rattle.meaning.proofs.Conditions.{some_sector, means_absent, means_images, means_sizes, means_finished, means_outside, means_spoiled}
-use Rattle.meaning.proofs.Ranges.{means_same}
+use Rattle.meaning.proofs.Ranges.{no_memory}
 use Rattle.meaning.proofs.Conflict.{means_conflict, means_waits}
 use Rattle.promises.specs.PickNumbers.{pick_table, run_table, PickExactlyWhen, RunExactlyWhen, ConflictExactlyWhen, MeetInMemory, ConflictOfTwoUnits}
 use Rattle.promises.specs.Looks.{LookExactlyWhen}
@@ -72,16 +72,16 @@ conflict_exactly_when r s = (when_true (means_conflict r s), is_true (means_conf
 -- the data of a command lies in memory, so what it touches of a disk is its sectors, and that disk is its unit's own
 no_data_there : (b : Bool) (a n : ℕ) (xs : List Link) (u x : ℕ) → ¬ SomeOf (λ y. LiesIn y (disk u) x) (ranges_of b a n xs)
 no_data_there true a n [] u x h = h
-no_data_there true a n (y ∷ xs) u x (inl h) = when_false (means_same (disk u) memory) refl h.0
+no_data_there true a n (y ∷ xs) u x (inl h) = no_memory u h.0
 no_data_there true a n (y ∷ xs) u x (inr h) = no_data_there true a n xs u x h
-no_data_there false a n xs u x (inl h) = when_false (means_same (disk u) memory) refl h.0
+no_data_there false a n xs u x (inl h) = no_memory u h.0
 no_data_there false a n xs u x (inr h) = h
 
 module _ (r : Record) (u x : ℕ) where
   writes_own : WritesAt r (disk u) x → u ≡ r.unit
   writes_own (inl h) = absurd (no_data_there (listed r) r.address r.count (links_of r) u x h.1)
   writes_own (inr (inl h)) = let e = h.1.0 in cc
-  writes_own (inr (inr h)) = absurd (when_false (means_same (disk u) memory) refl h.0)
+  writes_own (inr (inr h)) = absurd (no_memory u h.0)
 
   touches_own : ReadsAt r (disk u) x ⊎ WritesAt r (disk u) x → u ≡ r.unit
   touches_own (inl (inl h)) = absurd (no_data_there (listed r) r.address r.count (links_of r) u x h.1)
@@ -139,11 +139,6 @@ means_sector_above d c = go (means_eq c.head d.head)
         above : SectorAbove d c → d.sector < c.sector
         above (inl l) = absurd (n l.0)
         above (inr l) = l.1
-
--- a mark that is not set
-means_off : (b : Bool) → Means (b ≡ false) (not b)
-means_off true = fails (λ e. true≢false e)
-means_off false = holds refl
 
 -- what a command is asked, each test beside what it means; its codes are given by these questions, and so is what is told beside them
 module _ (c : Copied) (d : Drive) (m : List ℕ) where

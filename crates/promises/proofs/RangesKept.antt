@@ -22,7 +22,7 @@ use Rattle.meaning.specs.Code.{nop, write, read, command_in, chained, gathers, o
 use Rattle.meaning.specs.Walk.{record_of}
 use Rattle.meaning.proofs.All.{All}
 use Rattle.meaning.proofs.Means.{Means, holds, fails, means_eq}
-use Rattle.meaning.proofs.Tests.{and-false}
+use Rattle.meaning.proofs.Rows.{and_second}
 use Rattle.meaning.proofs.Links.{in_listed, links_kept}
 use Rattle.meaning.proofs.Numbers.{Off, told_but, rows_but, off_last}
 use Rattle.promises.specs.RangesKept.{HasList, ListInMemory, CodeOfARead, RangesKeptByCode}
@@ -147,7 +147,7 @@ module _ (c : Copied) (d : Drive) (m : List ℕ) where
 
     -- and that the row for the list does not give either
     read_other : N ≢ 0x4B → WasRead
-    read_other o = record { sgm = g; early = early_past c d before_data; inside = and-false (gathers c) (list_outside c n) (first _ _ (sym (code_past c d n xs before_data) ∙ e)) g }
+    read_other o = record { sgm = g; early = early_past c d before_data; inside = sym (and_second (gathers c) (list_outside c n) g) ∙ first _ _ (sym (code_past c d n xs before_data) ∙ e) }
       where
         first : (x : Bool) (z : ℕ) → cond x 0x4B z ≡ N → x ≡ false
         first true z f = absurd (o (sym f))

@@ -22,7 +22,7 @@ use Rattle.meaning.specs.Conditions.{Absent, Reads, Writes, SomeOf}
 use Rattle.meaning.proofs.All.{All, all_map, all_both}
 use Rattle.meaning.proofs.Means.{Means, holds, fails, when_false, is_true, is_false, means_eq}
 use Rattle.meaning.proofs.Spaces.{moves_append, length_moves}
-use Rattle.meaning.proofs.Ranges.{means_same}
+use Rattle.meaning.proofs.Ranges.{no_memory}
 use Rattle.meaning.proofs.Conditions.{means_images, image_size, not_both, means_reads, means_writes, means_transfers, means_bad_record, Inside, Good, good}
 use Rattle.meaning.proofs.Pieces.{Holds, asked_held, held_asked, pieces_at_lem, pieces_asked, pieces_inside, in_list_order}
 use Rattle.meaning.proofs.Still.{step_keeps_lengths}
@@ -213,10 +213,6 @@ module _ (d : Drives) (r : Record) (s : Store) (may : MayStep d r s) where
       true≢false (sym here ∙ ap (λ (v : ℕ). (d.on v).present) (sym (same_unit k.1.0)) ∙ gone)
 
 -- ---- the two together
-
--- a disk is another space than memory
-pub no_memory : (u : ℕ) → ¬ (disk u ≡ memory)
-no_memory u = when_false (means_same (disk u) memory) refl
 
 module _ (d : Drives) (r : Record) (s : Store) where
   between : Store

@@ -13,6 +13,7 @@ use Rattle.meaning.specs.Pick.{pick_number, step_at}
 use Rattle.meaning.specs.Run.{run_number, Tally, at_start, one_pick, picks_from, by_picks, ran_to, run_reply, RunGives}
 use Rattle.meaning.proofs.Means.{Means, holds, fails, means_eq}
 use Rattle.promises.specs.Taken.{steps_at, Along, BySteps, Tried, no_more, accept, refuse, RunByPicksTakesSteps, StepsMoveOne, StepsLeaveAbsent}
+use Rattle.order.proofs.Picks.{step_taken, passed_over}
 use Rattle.promises.proofs.PickMoves.{taken_moves_one}
 
 -- ---- along the way
@@ -52,19 +53,13 @@ record Counted (d : Drives) (n : ℕ) (ps : List ℕ) (y y' : Tally) : Type 0 wh
   many : y'.steps ≡ y.steps + length places
 
 module _ (d : Drives) (n : ℕ) where
-  abbrev took : ℕ → Tally → Tally
-  took p y = record { steps = y.steps + 1; refused = y.refused; state = step_at d p y.state }
-
-  abbrev passed : Tally → Tally
-  passed y = record { steps = y.steps; refused = y.refused + 1; state = y.state }
-
   -- a pick that is taken, or passed over, and then the rest
   one_counted : (p : ℕ) (ps : List ℕ) (y : Tally) {b : Bool}
       → Means (Accepted d n y.state p) b
       → ((x : Tally) → Counted d n ps x (picks_from d n ps x))
-      → Counted d n (p ∷ ps) y (picks_from d n ps (cond b (took p y) (passed y)))
+      → Counted d n (p ∷ ps) y (picks_from d n ps (cond b (step_taken d p y) (passed_over y)))
   one_counted p ps y (holds z) rest =
-      let c = rest (took p y) in
+      let c = rest (step_taken d p y) in
       record {
         places = p ∷ c.places;
         tried = accept z c.tried;
@@ -73,7 +68,7 @@ module _ (d : Drives) (n : ℕ) where
         many = let e = c.many in omega arith;
       }
   one_counted p ps y (fails o) rest =
-      let c = rest (passed y) in
+      let c = rest (passed_over y) in
       record { places = c.places; tried = refuse o c.tried; accepted = c.accepted; left = c.left; many = c.many }
 
   picks_counted : (ps : List ℕ) (y : Tally) → Counted d n ps y (picks_from d n ps y)

@@ -20,12 +20,13 @@ use Rattle.meaning.specs.Touch.{data_bytes}
 use Rattle.meaning.specs.Pick.{step_at}
 use Rattle.meaning.specs.Conditions.{Within, SomeOf}
 use Rattle.meaning.proofs.Means.{Means, holds, fails, means_lt}
+use Rattle.meaning.proofs.Ranges.{no_memory}
 use Rattle.meaning.proofs.Pieces.{data_plain}
 use Rattle.promises.specs.StepMoves.{sector_of}
 use Rattle.promises.specs.PickMoves.{command_at}
 use Rattle.promises.specs.Taken.{steps_at, Along, Taken}
 use Rattle.promises.specs.WrittenThenRead.{Spares, Disjoint, DisjointSuffices, PlainIsDisjoint, WrittenThenRead, ReadBackIfDisjoint}
-use Rattle.promises.proofs.StepMoves.{data_in, no_memory, same_unit, step_stays}
+use Rattle.promises.proofs.StepMoves.{data_in, same_unit, step_stays}
 use Rattle.promises.proofs.PickMoves.{may_step, taken_moves_one}
 use Rattle.promises.proofs.Taken.{Accepted, along_after}
 
