@@ -20,6 +20,7 @@ pub mod Links
 pub mod Pieces
 pub mod Records
 pub mod Numbers
+pub mod Coded
 pub mod Counts
 pub mod Still
 pub mod Lent

@@ -39,7 +39,7 @@ some_links c = go (means_eq (links_field c) 0)
     go (holds e) = lit≤ tt
     go (fails n) = omega arith
 
-length_up_to : (n : ℕ) → length (up_to n) ≡ n
+pub length_up_to : (n : ℕ) → length (up_to n) ≡ n
 length_up_to zero = refl
 length_up_to (suc n) = length-append (up_to n) (n ∷ []) ∙ ap (λ (k : ℕ). k + 1) (length_up_to n) ∙ omega arith
 

@@ -31,36 +31,23 @@ use Rattle.meaning.proofs.All.{All, all_append, Among, here, there, all_at}
 use Rattle.std.proofs.lemmas.Bool.{cond_both}
 use Rattle.meaning.proofs.Tests.{some_no, sum-map}
 use Rattle.meaning.proofs.Links.{in_few, in_listed, none_outside, links_kept}
-use Rattle.meaning.proofs.Numbers.{Off, rows_off, off_last, Passed, sizes_long}
+use Rattle.meaning.proofs.Numbers.{Off, rows_off, Passed, sizes_long}
+use Rattle.meaning.proofs.Coded.{Past, past, early_past, code_past}
 
 -- ---- a code of 00
 
 -- of a transfer whose code is 00, no row of what only a transfer is asked applies, neither before its data is looked at nor after
 module _ (c : Copied) (d : Drive) (n : ℕ) (xs : List Link) (zero-code : code_of c d n xs ≡ 0) (other : eqb (command_in c.byte0) nop ≡ false) where
-  abbrev by_data : ℕ
-  by_data = first_of (data_rows c n xs) 0
-
-  commands_off : All Off (command_rows c)
+  none_before : Past c d
   unfolding code_of
-  commands_off = rows_off (command_rows c) (first_of (transfer_rows c d) by_data) zero-code (rw other)
+  none_before = past c d 0 (first_of (data_rows c n xs) 0) (rw other) refl zero-code
 
-  transfer_code : first_of (transfer_rows c d) by_data ≡ 0
-  unfolding code_of
-  transfer_code = sym (off_last (command_rows c) (first_of (transfer_rows c d) by_data) commands_off) ∙ zero-code
-
-  transfer_off : All Off (transfer_rows c d)
-  transfer_off = rows_off (transfer_rows c d) by_data transfer_code refl
-
-  -- a row of that table, found by what it says
+  -- a row before the data's, found by what it says
   row : {r : Row} → Among r (transfer_rows c d) → Off r
-  row a = all_at Off transfer_off a
+  row a = all_at Off none_before.transfer a
 
   data_off : All Off (data_rows c n xs)
-  data_off = rows_off (data_rows c n xs) 0 (sym (off_last (transfer_rows c d) by_data transfer_off) ∙ transfer_code) refl
-
-  early_zero : early_code c d ≡ 0
-  unfolding early_code
-  early_zero = off_last (command_rows c) (first_of (transfer_rows c d) 0) commands_off ∙ off_last (transfer_rows c d) 0 transfer_off
+  data_off = rows_off (data_rows c n xs) 0 (sym (code_past c d n xs none_before) ∙ zero-code) refl
 
 -- ---- a record that the walk fills
 
@@ -69,7 +56,7 @@ pub read_all : (m : List ℕ) (c : Copied) (d : Drive) → code_of c d (length m
 unfolding links_read
 read_all m c d e h =
     let off = data_off c d (length m) (links_in m c) e h in
-    rw (early_zero c d (length m) (links_in m c) e h) (none_outside m c off.0 (list_outside c (length m)) refl)
+    rw (early_past c d (none_before c d (length m) (links_in m c) e h)) (none_outside m c off.0 (list_outside c (length m)) refl)
 
 -- so it is as number 9 asks
 module _ (d : Drives) (s : Store) (c : Copied) (a : ℕ) where

@@ -24,12 +24,13 @@ use Rattle.meaning.proofs.All.{All}
 use Rattle.meaning.proofs.Means.{Means, holds, fails, means_eq}
 use Rattle.meaning.proofs.Rows.{and_second}
 use Rattle.meaning.proofs.Links.{in_listed, links_kept}
-use Rattle.meaning.proofs.Numbers.{Off, told_but, rows_but, off_last}
+use Rattle.meaning.proofs.Numbers.{told_but, rows_but}
+use Rattle.meaning.proofs.Coded.{Past, past, early_past, code_past}
 use Rattle.promises.specs.RangesKept.{HasList, ListInMemory, CodeOfARead, RangesKeptByCode}
 
 -- ---- rows before the data's
 
-module _ (c : Copied) (d : Drive) where
+module _ (c : Copied) where
   -- No Operation with SGM gets 1EH or 14H
   pub no_nop : (z N : ℕ) → gathers c ≡ true → first_of (command_rows c) z ≡ N → N ≢ 0x1E → N ≢ 0x14 → eqb (command_in c.byte0) nop ≡ false
   no_nop z N g e o p = go (eqb (command_in c.byte0) nop) refl
@@ -42,26 +43,6 @@ module _ (c : Copied) (d : Drive) where
       go : (b : Bool) → eqb (command_in c.byte0) nop ≡ b → b ≡ false
       go true h = absurd (either (chained c && odd c.next) (ltb read (command_in c.byte0)) (not (eqb c.subfunction 0)) 0 (rw (g, h) at e))
       go false h = refl
-
-  -- none of those rows applies
-  pub record Past : Type 0 where
-    pub command : All Off (command_rows c)
-    pub transfer : All Off (transfer_rows c d)
-
-  pub early_past : Past → early_code c d ≡ 0
-  unfolding early_code
-  early_past p = off_last (command_rows c) (first_of (transfer_rows c d) 0) p.command ∙ off_last (transfer_rows c d) 0 p.transfer
-
-  module _ (n : ℕ) (xs : List Link) where
-    pub code_past : Past → code_of c d n xs ≡ first_of (data_rows c n xs) 0
-    unfolding code_of
-    code_past p = off_last (command_rows c) _ p.command ∙ off_last (transfer_rows c d) _ p.transfer
-
-  -- where they come to N in the end, whatever is given past them
-  pub past : (N z : ℕ) → every_of (told_but N) (command_rows c) ≡ true → every_of (told_but N) (transfer_rows c d) ≡ true → first_of (command_rows c) (first_of (transfer_rows c d) z) ≡ N → Past
-  past N z h k e =
-      let off = rows_but N (command_rows c) (first_of (transfer_rows c d) z) e h in
-      record { command = off; transfer = rows_but N (transfer_rows c d) z (sym (off_last (command_rows c) (first_of (transfer_rows c d) z) off) ∙ e) k }
 
 -- ---- the data's rows, of a command with a list
 
@@ -104,7 +85,7 @@ module _ (c : Copied) (d : Drive) (m : List ℕ) where
   module _ (w : WasRead) where
     other : eqb (command_in c.byte0) nop ≡ false
     unfolding early_code
-    other = no_nop c d (first_of (transfer_rows c d) 0) 0 w.sgm w.early (λ e. omega arith) (λ e. omega arith)
+    other = no_nop c (first_of (transfer_rows c d) 0) 0 w.sgm w.early (λ e. omega arith) (λ e. omega arith)
 
     before : Past c d
     unfolding early_code
@@ -180,7 +161,7 @@ module _ (c : Copied) (d : Drive) (m : List ℕ) where
   module _ (g : gathers c ≡ true) (e : code_of c d n xs ≡ 0) where
     transfers_then : eqb (command_in c.byte0) nop ≡ false
     unfolding code_of
-    transfers_then = no_nop c d (first_of (transfer_rows c d) (first_of (data_rows c n xs) 0)) 0 g e (λ z. omega arith) (λ z. omega arith)
+    transfers_then = no_nop c (first_of (transfer_rows c d) (first_of (data_rows c n xs) 0)) 0 g e (λ z. omega arith) (λ z. omega arith)
 
     pub read_then : links_read m c d ≡ xs
     read_then = read_kept (read_other 0 g e (rw transfers_then) refl (λ z. omega arith))
