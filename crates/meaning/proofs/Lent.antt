@@ -2,9 +2,7 @@
 -- four images.
 use mathlib.Core.Path.{◌≡◌, refl, sym, fun_ext}
 use Prim.Native.Nat.{ℕ, zero, suc}
-use native.Mathlib.Omega.{arith}
-use mathlib.Core.List.{List, [], ◌∷◌}
-use lib.ListN.{length}
+use mathlib.Core.List.{List}
 use Rattle.std.proofs.lemmas.List.{nil_from_length}
 use Rattle.meaning.specs.Store.{Space, memory, disk, Store, lent, images}
 use Rattle.meaning.specs.State.{State, state_of}

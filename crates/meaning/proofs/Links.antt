@@ -2,14 +2,13 @@
 -- outside memory; and what a loop through the ranges of a record keeps.
 use mathlib.Core.Path.{◌≡◌, refl, sym, ap, ◌∙◌}
 use Prim.Native.Nat.{ℕ, zero, suc, ◌+◌, ◌*◌, ◌/◌, ◌≤◌, ◌<◌, min, zero-le}
-use native.Mathlib.Nat.{mod-lt, min-eq_left, min-eq_right, min-le_right}
+use native.Mathlib.Nat.{mod-lt, min-le_right}
 use native.Mathlib.Numerals.{add-one}
-use native.Mathlib.Decide.{dec_le}
 use native.Mathlib.Omega.{arith}
 use mathlib.Core.Bool.{Bool, true, false, not, ◌&&◌, cond, true≢false}
 use mathlib.Core.List.{List, [], ◌∷◌, ◌++◌, map-append, append_assoc}
 use lib.ListN.{length, get_or, set, take, drop, length-append, length-map}
-use lib.Seq.{take-append_seam, take_all, drop-cons, set_at}
+use lib.Seq.{take-append_seam, drop-cons, set_at}
 use lib.Dec.{eqb, lit≤}
 use borrow.Author.Tests.{ne_eqb}
 use Rattle.std.proofs.lemmas.Bool.{or_left}

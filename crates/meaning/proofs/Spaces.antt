@@ -5,11 +5,11 @@ use mathlib.Core.Path.{◌≡◌, refl, sym, ap, ◌∙◌}
 use Prim.Native.Nat.{ℕ, ◌≤◌}
 use native.Mathlib.Nat.{le_refl}
 use native.Mathlib.Omega.{arith}
-use mathlib.Core.Bool.{Bool, true, false, cond, false≢true}
+use mathlib.Core.Bool.{Bool, true, false, cond}
 use mathlib.Core.List.{List, [], ◌∷◌, ◌++◌}
 use lib.ListN.{length, take, drop, length-take}
 use lib.Seq.{sets, length-sets}
-use Rattle.meaning.specs.Store.{Space, memory, disk, same, Store, Area, area, get, put, Move, copy, post, move, moves}
+use Rattle.meaning.specs.Store.{Space, same, Store, Area, area, get, put, Move, copy, post, move, moves}
 use Rattle.meaning.proofs.All.{All}
 use Rattle.meaning.proofs.Means.{when_true, is_true}
 use Rattle.meaning.proofs.Ranges.{means_same}

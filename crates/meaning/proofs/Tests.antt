@@ -1,13 +1,12 @@
--- What a test that is built from others tells of them, and tests of the elements of a list.
-use mathlib.Core.Path.{◌≡◌, refl, sym, ap, ap₂, ◌∙◌}
+-- Tests of the elements of a list, and sums of a number of each. The laws of `some_of` and `every_of` that are not here are the library's.
+use mathlib.Core.Path.{◌≡◌, refl, ap, ap₂, ◌∙◌}
 use Prim.Native.Nat.{ℕ, zero, suc, ◌+◌}
-use mathlib.Core.Bool.{Bool, true, false, not, ◌&&◌, ◌||◌, or_assoc, false≢true}
-use mathlib.Core.List.{List, [], ◌∷◌, ◌++◌, map}
+use mathlib.Core.Bool.{Bool, true, false, not, ◌&&◌, ◌||◌}
+use mathlib.Core.List.{List, [], ◌∷◌, map}
 use lib.ListN.{get_or, set, take}
 use Rattle.std.proofs.lemmas.Bool.{and_parts, or_from}
 use Rattle.meaning.specs.Each.{some_of, every_of, sum_of}
 use Rattle.meaning.proofs.All.{All}
-
 -- for the crates above, under the names that they cite
 pub use mathlib.Core.Bool.{and-false as and_no, or-false as or_no}
 pub use Rattle.std.proofs.lemmas.List.Folds.{list_any-append as some_append}

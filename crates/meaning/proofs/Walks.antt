@@ -3,7 +3,7 @@
 use mathlib.Core.Path.{◌≡◌, refl, sym, ap, ap₂, ◌∙◌, subst}
 use Prim.Native.Nat.{ℕ, zero, suc, ◌+◌, ◌≤◌, ◌<◌, zero-le}
 use native.Mathlib.Omega.{arith}
-use mathlib.Core.Bool.{Bool, true, false, not, ◌&&◌, cond, and-false}
+use mathlib.Core.Bool.{Bool, true, false, not, ◌&&◌, and-false}
 use mathlib.Core.List.{List, [], ◌∷◌, ◌++◌, map}
 use lib.ListN.{length, drop, length-append, length-drop}
 use lib.Seq.{take-append_seam}
@@ -22,7 +22,7 @@ use Rattle.meaning.specs.Sizes.{sizes_wrong}
 use Rattle.meaning.specs.Fields.{all_in}
 use Rattle.meaning.specs.declared.Link.{Link}
 use Rattle.meaning.specs.Links.{most_links}
-use Rattle.meaning.specs.Code.{copied_at, nop, write, command_in, odd, first_sector, fitted_on_drive, links_in, list_outside, command_rows, transfer_rows, data_rows, code_of, early_code, links_read}
+use Rattle.meaning.specs.Code.{copied_at, nop, write, command_in, odd, first_sector, fitted_on_drive, links_in, list_outside, transfer_rows, data_rows, code_of, links_read}
 use Rattle.meaning.specs.Walk.{record_of, goes_on, shares, Chain, refused, accepted, follow, chain_at, filled}
 use Rattle.meaning.specs.Command.{transfers, steps_of, remaining}
 use Rattle.meaning.specs.Pick.{bad_transfer, bad_record, spoiled}

@@ -8,8 +8,7 @@ use mathlib.Core.Bool.{false, not, ◌&&◌}
 use mathlib.Core.List.{List, [], ◌∷◌, ◌++◌}
 use lib.ListN.{length, get_or, set, take, drop}
 use lib.Seq.{length-take-le, take-set-lt, drop-set-lt, get_or-take, take-take}
-use borrow.Author.Tests.{eq-eqb}
-use Rattle.std.proofs.lemmas.Bool.{or_parts, cond-true}
+use Rattle.std.proofs.lemmas.Bool.{or_parts}
 use Rattle.meaning.specs.Drives.{Drives}
 use Rattle.meaning.specs.declared.Record.{Record}
 use Rattle.meaning.specs.Each.{some_of, sum_of}
@@ -19,7 +18,7 @@ use Rattle.meaning.specs.Command.{finished, remaining, no_record}
 use Rattle.meaning.specs.Touch.{conflict}
 use Rattle.meaning.specs.Step.{step, stepped}
 use Rattle.meaning.specs.Pick.{waits, step_at}
-use Rattle.meaning.specs.Run.{steps_left, run_number, Tally, by_picks, advanced, steps_done, written, as_written, ran_to}
+use Rattle.meaning.specs.Run.{steps_left, run_number, Tally, by_picks, advanced, steps_done, written, as_written}
 use Rattle.meaning.proofs.Rows.{and_second}
 use Rattle.meaning.proofs.Numbers.{Free, free_place, Passed, passed_run, ran_0, in_table}
 use Rattle.meaning.proofs.Records.{some_unfinished, unfinished_some, remaining_stepped, conflict_stepped}

@@ -20,7 +20,6 @@ use Rattle.meaning.specs.Fields.{bit}
 use Rattle.meaning.specs.Links.{link_bytes, links_at, padded, range_of, ranges_of, bytes_in}
 use Rattle.meaning.specs.Code.{nop, write, read, command_in, chained, gathers, odd, link_count, links_in, list_outside, outside, command_rows, transfer_rows, data_rows, code_of, early_code, links_read}
 use Rattle.meaning.specs.Walk.{record_of}
-use Rattle.meaning.proofs.All.{All}
 use Rattle.meaning.proofs.Means.{Means, holds, fails, means_eq}
 use Rattle.meaning.proofs.Rows.{and_second}
 use Rattle.meaning.proofs.Links.{in_listed, links_kept}

@@ -20,7 +20,7 @@ use Rattle.meaning.specs.Touch.{data_bytes}
 use Rattle.meaning.specs.Step.{pieces_at, in_sector, sector_move_by, sector_move, closing, close_move, step_moves, step}
 use Rattle.meaning.specs.Conditions.{Absent, Reads, Writes, SomeOf}
 use Rattle.meaning.proofs.All.{All, all_map, all_both}
-use Rattle.meaning.proofs.Means.{Means, holds, fails, when_false, is_true, is_false, means_eq}
+use Rattle.meaning.proofs.Means.{Means, holds, fails, is_true, is_false, means_eq}
 use Rattle.meaning.proofs.Spaces.{moves_append, length_moves}
 use Rattle.meaning.proofs.Ranges.{no_memory}
 use Rattle.meaning.proofs.Conditions.{means_images, image_size, not_both, means_reads, means_writes, means_transfers, means_bad_record, Inside, Good, good}
