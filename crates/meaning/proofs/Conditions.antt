@@ -28,6 +28,9 @@ use Rattle.meaning.specs.Conditions.{MaximaWrong, ImageWrong, Present, Absent, I
 use Rattle.meaning.proofs.Means.{Means, holds, fails, when_true, when_false, is_false, means_below, means_itself, means_off, means_and, means_or, means_or₃, means_not-and, means_above, means_other, means_lt, means_le, means_eq, means_of, means_some}
 use Rattle.meaning.proofs.All.{All}
 
+at_most : {a b : ℕ} → ¬ (a < b) → b ≤ a
+at_most h = omega arith
+
 -- ---- sizes
 
 pub means_maxima : (d : Drive) → Means (MaximaWrong d) (not (maxima_right d))
@@ -88,10 +91,7 @@ pub record RightStore (d : Drives) (s : Store) : Type 0 where
 pub right_store : (d : Drives) (s : Store) → store_wrong d s ≡ false → RightStore d s
 right_store d s e =
     let n = when_false (means_store d s) e in
-    record { memory_fits = go (means_lt memory_limit (length (s memory))) (λ h. n (inl h)); image_exact = image_size d s (is_false (means_images d s) (λ w. n (inr w))) }
-  where
-    go : {b : Bool} → Means (memory_limit < length (s memory)) b → ¬ (memory_limit < length (s memory)) → length (s memory) ≤ memory_limit
-    go m h = omega arith
+    record { memory_fits = at_most (λ h. n (inl h)); image_exact = image_size d s (is_false (means_images d s) (λ w. n (inr w))) }
 
 -- ---- kinds
 
@@ -115,9 +115,6 @@ means_finished r = means_le (steps_of r) r.taken
 
 pub means_outside : (n : ℕ) (x : Range) → Means (Outside n x) (outside n x)
 means_outside n x = means_lt n (x.from + x.many)
-
-at_most : {a b : ℕ} → ¬ (a < b) → b ≤ a
-at_most h = omega arith
 
 -- a range that lies in a memory of n bytes; so does each where none lies outside
 abbrev pub Inside : ℕ → Range → Type 0

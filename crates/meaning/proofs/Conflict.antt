@@ -14,28 +14,14 @@ use Rattle.meaning.specs.Command.{reads, writes, finished, no_record}
 use Rattle.meaning.specs.Touch.{Touched, data_bytes, status_bytes, sectors, touched_by, touched, disturbs, conflict}
 use Rattle.meaning.specs.Pick.{waits}
 use Rattle.meaning.specs.Conditions.{LiesIn, Reads, Writes, ReadsAt, WritesAt, Disturbs, Conflict, Finished, Waits}
-use Rattle.meaning.proofs.Means.{Means, holds, fails, means_iff, means_opposite, means_and, means_or, means_some}
+use Rattle.meaning.proofs.Means.{Means, holds, fails, means_iff, means_opposite, means_and, means_or, means_some, ⊎_iff, some_of_both}
 use Rattle.meaning.proofs.Ranges.{InSome, means_meet}
 use Rattle.meaning.proofs.Conditions.{not_both, means_reads, means_writes, means_finished}
 
 -- ---- what lies in lists of ranges
 
-⊎_iff : {A B C D : Type 0} → A ↔ B → C ↔ D → (A ⊎ C) ↔ (B ⊎ D)
-⊎_iff e f = (⊎_map e.0 f.0, ⊎_map e.1 f.1)
-
-⊎_regroup : {A B C : Type 0} → (A ⊎ (B ⊎ C)) ↔ ((A ⊎ B) ⊎ C)
-⊎_regroup = (
-  ⊎_elim (λ a. inl (inl a)) (⊎_elim (λ b. inl (inr b)) inr),
-  ⊎_elim (⊎_elim inl (λ b. inr (inl b))) (λ c. inr (inr c)),
-)
-
-module _ (p : Space) (x : ℕ) where
-  in_append : (xs ys : List Range) → InSome (xs ++ ys) p x ↔ (InSome xs p x ⊎ InSome ys p x)
-  in_append [] ys = (inr, ⊎_elim absurd (λ h. h))
-  in_append (r ∷ xs) ys = Iff.trans (⊎_iff Iff.rfl (in_append xs ys)) ⊎_regroup
-
-  in_one : (r : Range) → InSome (r ∷ []) p x ↔ LiesIn r p x
-  in_one r = (⊎_elim (λ h. h) absurd, inl)
+in_one : (p : Space) (x : ℕ) (r : Range) → InSome (r ∷ []) p x ↔ LiesIn r p x
+in_one p x r = (⊎_elim (λ h. h) absurd, inl)
 
 -- ranges, if the test passes
 abbrev given : Bool → List Range → List Range
@@ -72,14 +58,14 @@ touched_by_kind r = go (means_reads r) (means_writes r)
 module _ (r : Record) (p : Space) (x : ℕ) where
   in_read : InSome (kinds r).read p x ↔ ReadsAt r p x
   in_read =
-      Iff.trans (in_append p x (given (writes r) (data_bytes r)) (given (reads r) (sectors r ∷ [])))
+      Iff.trans (some_of_both (λ z. LiesIn z p x) (given (writes r) (data_bytes r)) (given (reads r) (sectors r ∷ [])))
       (⊎_iff (in_given p x (data_bytes r) (means_writes r) Iff.rfl) (in_given p x (sectors r ∷ []) (means_reads r) (in_one p x (sectors r))))
 
   in_written : InSome (kinds r).written p x ↔ WritesAt r p x
   in_written =
-      Iff.trans (in_append p x (given (reads r) (data_bytes r)) (given (writes r) (sectors r ∷ []) ++ status_bytes r ∷ []))
+      Iff.trans (some_of_both (λ z. LiesIn z p x) (given (reads r) (data_bytes r)) (given (writes r) (sectors r ∷ []) ++ status_bytes r ∷ []))
       (⊎_iff (in_given p x (data_bytes r) (means_reads r) Iff.rfl)
-      (Iff.trans (in_append p x (given (writes r) (sectors r ∷ [])) (status_bytes r ∷ []))
+      (Iff.trans (some_of_both (λ z. LiesIn z p x) (given (writes r) (sectors r ∷ [])) (status_bytes r ∷ []))
       (⊎_iff (in_given p x (sectors r ∷ []) (means_writes r) (in_one p x (sectors r))) (in_one p x (status_bytes r)))))
 
 -- ---- conflict, and waiting
@@ -95,7 +81,7 @@ means_disturbs r s =
     (means_meet (kinds r).written ((kinds s).read ++ (kinds s).written)))
   where
     both : (p : Space) (x : ℕ) → InSome ((kinds s).read ++ (kinds s).written) p x ↔ (ReadsAt s p x ⊎ WritesAt s p x)
-    both p x = Iff.trans (in_append p x (kinds s).read (kinds s).written) (⊎_iff (in_read s p x) (in_written s p x))
+    both p x = Iff.trans (some_of_both (λ z. LiesIn z p x) (kinds s).read (kinds s).written) (⊎_iff (in_read s p x) (in_written s p x))
 
 pub means_conflict : (r s : Record) → Means (Conflict r s) (conflict r s)
 unfolding conflict

@@ -1,11 +1,12 @@
 -- A test and the proposition that it tests: `Means P b` says that b is true where P holds and false where it fails. One law for
 -- each way that a test is put together, so that a condition of the rules is read off from its test part by part.
 use mathlib.Core.Path.{◌≡◌, refl, sym, subst, ◌∙◌}
-use mathlib.Core.Logic.{◌↔◌, ◌≢◌, ◌⊎◌, inl, inr}
+use mathlib.Core.Logic.Iff
+use mathlib.Core.Logic.{◌↔◌, ◌≢◌, ◌⊎◌, inl, inr, ⊎_elim, ⊎_map}
 use Prim.Native.Nat.{ℕ, zero, suc, ◌≤◌, ◌<◌, suc-le-suc}
 use native.Mathlib.Nat.{not-suc-le-zero, le_of_suc-le-suc}
 use mathlib.Core.Bool.{Bool, true, false, not, ◌&&◌, ◌||◌, or_assoc, true≢false, false≢true, or-false}
-use mathlib.Core.List.{List, [], ◌∷◌}
+use mathlib.Core.List.{List, [], ◌∷◌, ◌++◌}
 use native.Mathlib.Omega.{arith}
 use lib.ListN.{length, get_or, take}
 use lib.Dec.{ltb, leb, eqb}
@@ -109,6 +110,20 @@ means_other a b = means_opposite (means_eq a b)
 pub means_of : {A : Type 0} {P : A → Type 0} {p : A → Bool} → ((x : A) → Means (P x) (p x)) → (xs : List A) → Means (SomeOf P xs) (some_of p xs)
 means_of means [] = fails (λ h. h)
 means_of means (x ∷ xs) = means_or (means x) (means_of means xs)
+
+-- one of two lists, laid end to end
+pub ⊎_iff : {A B C D : Type 0} → A ↔ B → C ↔ D → (A ⊎ C) ↔ (B ⊎ D)
+⊎_iff e f = (⊎_map e.0 f.0, ⊎_map e.1 f.1)
+
+⊎_regroup : {A B C : Type 0} → (A ⊎ (B ⊎ C)) ↔ ((A ⊎ B) ⊎ C)
+⊎_regroup = (
+  ⊎_elim (λ a. inl (inl a)) (⊎_elim (λ b. inl (inr b)) inr),
+  ⊎_elim (⊎_elim inl (λ b. inr (inl b))) (λ c. inr (inr c)),
+)
+
+pub some_of_both : {A : Type 0} (P : A → Type 0) (xs ys : List A) → SomeOf P (xs ++ ys) ↔ (SomeOf P xs ⊎ SomeOf P ys)
+some_of_both P [] ys = (inr, ⊎_elim absurd (λ h. h))
+some_of_both P (x ∷ xs) ys = Iff.trans (⊎_iff Iff.rfl (some_of_both P xs ys)) ⊎_regroup
 
 -- one of the first n of a list
 module _ {A : Type 0} {P : A → Type 0} {p : A → Bool} (means : (x : A) → Means (P x) (p x)) (d : A) where

@@ -1,13 +1,14 @@
 -- Overwriting by `sets`, at places that lie apart: two overwritings commute, and reading is not changed by one.
 -- Neither asks for anything to lie in the list. By induction on what is written, from the laws of `set`.
 use mathlib.Core.Path.{◌≡◌, refl, sym, ap, ◌∙◌}
+use mathlib.Core.Logic.{◌≢◌}
 use Prim.Native.Nat.{ℕ, suc, ◌+◌, ◌-◌, ◌≤◌, min, max}
 use native.Mathlib.Nat.{add-sub_of_le}
 use native.Mathlib.Decide.{dec_lt}
 use native.Mathlib.Omega.{arith}
 use mathlib.Core.List.{List, [], ◌∷◌}
-use lib.ListN.{length, set, take, drop}
-use lib.Seq.{sets, set_comm, drop-set-lt, drop-set-add, take-set-le}
+use lib.ListN.{length, get_or, set, take, drop}
+use lib.Seq.{sets, set_comm, get_or-set_other, drop-set-lt, drop-set-add, take-set-le}
 
 -- the a places from i on and the b places from j on have none in common: the earlier end is not past the later start
 abbrev pub Apart : ℕ → ℕ → ℕ → ℕ → Type 0
@@ -40,3 +41,11 @@ module _ {A : Type 0} where
   pub read_sets : (l : List A) (a n j : ℕ) (ws : List A) → Apart a n j (length ws) → take n (drop a (sets l j ws)) ≡ take n (drop a l)
   read_sets l a n j [] h = refl
   read_sets l a n j (w ∷ ws) h = read_sets (set l j w) a n (suc j) ws (omega arith) ∙ read_set l a n j w (omega arith)
+
+  -- what is laid, its first element last: so two that differ in that one alone leave the same elsewhere
+  pub first_last : (l : List A) (i : ℕ) (vs : List A) (v : A) → sets l i (v ∷ vs) ≡ set (sets l (suc i) vs) i v
+  first_last l i vs v = sets_comm l (suc i) vs i (v ∷ []) (omega arith)
+
+  pub others_same : (l : List A) (i : ℕ) (vs : List A) (v w : A) (x : ℕ) (z : A) → x ≢ i → get_or (sets l i (v ∷ vs)) x z ≡ get_or (sets l i (w ∷ vs)) x z
+  others_same l i vs v w x z n =
+      rw (first_last l i vs v, first_last l i vs w) (get_or-set_other (sets l (suc i) vs) i x v z n ∙ sym (get_or-set_other (sets l (suc i) vs) i x w z n))

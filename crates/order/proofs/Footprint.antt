@@ -1,7 +1,7 @@
 -- Steps of commands that do not conflict commute: every move of a step keeps to what `touched` says of its command, so that two
 -- commands of which neither disturbs the other have steps whose moves all keep apart.
 use mathlib.Core.Path.{◌≡◌, sym, subst, ◌∙◌}
-use mathlib.Core.Logic.{◌≢◌}
+use mathlib.Core.Logic.{◌≢◌, ◌⊎◌, inl, inr}
 use Prim.Native.Nat.{ℕ, ◌+◌, ◌-◌, ◌*◌, ◌≤◌, ◌<◌}
 use native.Mathlib.Omega.{arith}
 use mathlib.Core.Bool.{Bool, true, false, ◌||◌, cond}
@@ -18,8 +18,9 @@ use Rattle.meaning.specs.Ranges.{Range, bytes, sectors_of, crosses, overlap, mee
 use Rattle.meaning.specs.Command.{reads, writes, steps_of, remaining}
 use Rattle.meaning.specs.Pieces.{Piece, piece_of, pieces_of}
 use Rattle.meaning.specs.Touch.{Touched, data_bytes, status_bytes, sectors, by_read, by_write, touched, touched_by, disturbs, conflict}
+use Rattle.meaning.specs.Conditions.{SomeOf}
 use Rattle.meaning.specs.Step.{pieces_at, in_memory, in_sector, sector_move, closing, close_move, step_moves, step, sector_move_by}
-use Rattle.meaning.proofs.Means.{Means, holds, fails, means_eq}
+use Rattle.meaning.proofs.Means.{Means, holds, fails, means_eq, some_of_both}
 use Rattle.meaning.proofs.Rows.{and_second}
 use Rattle.meaning.proofs.All.{All, all_append, all_map}
 use Rattle.meaning.proofs.Spaces.{Separate, writes_to, reads_from, Spares, KeepApart, moves_comm}
@@ -51,27 +52,19 @@ lies_separate e (one_of u i a c f m s h k) (one_of v j b o g n t h' k') = parts_
         omega (arith, ltb-false)
 
 -- in one of some ranges
-data Inside (x : Area) : List Range → Type 0 where
-  here : {z : Range} {zs : List Range} → Lies x z → Inside x (z ∷ zs)
-  there : {z : Range} {zs : List Range} → Inside x zs → Inside x (z ∷ zs)
-
-inside_left : (x : Area) {zs : List Range} (ws : List Range) → Inside x zs → Inside x (zs ++ ws)
-inside_left x ws (here h) = here h
-inside_left x ws (there h) = there (inside_left x ws h)
-
-inside_right : (x : Area) (zs : List Range) {ws : List Range} → Inside x ws → Inside x (zs ++ ws)
-inside_right x [] h = h
-inside_right x (z ∷ zs) h = there (inside_right x zs h)
+abbrev Inside : Area → List Range → Type 0
+Inside x zs = SomeOf (Lies x) zs
 
 -- a test that all the ranges fail is failed by the one that the area lies in
-find : (p : Range → Bool) (x : Area) {zs : List Range} → some_of p zs ≡ false → Inside x zs → (z : Range) × (p z ≡ false) × Lies x z
-find p x e (here {z = z} {zs = zs} h) = (z, (or_parts (p z) (some_of p zs) e).0, h)
-find p x e (there {z = z} {zs = zs} h) = find p x (or_parts (p z) (some_of p zs) e).1 h
+find : (p : Range → Bool) (x : Area) (zs : List Range) → some_of p zs ≡ false → Inside x zs → (z : Range) × (p z ≡ false) × Lies x z
+find p x [] e h = absurd h
+find p x (z ∷ zs) e (inl h) = (z, (or_parts (p z) (some_of p zs) e).0, h)
+find p x (z ∷ zs) e (inr h) = find p x zs (or_parts (p z) (some_of p zs) e).1 h
 
-meet_separate : (x y : Area) {zs ws : List Range} → meet zs ws ≡ false → Inside x zs → Inside y ws → Separate x y
-meet_separate x y {zs} {ws} e h k =
-    let f = find (λ z. some_of (overlap z) ws) x e h in
-    let g = find (overlap f.0) y f.1 k in
+meet_separate : (x y : Area) (zs ws : List Range) → meet zs ws ≡ false → Inside x zs → Inside y ws → Separate x y
+meet_separate x y zs ws e h k =
+    let f = find (λ z. some_of (overlap z) ws) x zs e h in
+    let g = find (overlap f.0) y ws f.1 k in
     lies_separate g.1 f.2 g.2
 
 -- ---- a move that keeps to what a command reads and writes
@@ -84,10 +77,13 @@ keeps_spares : (t u : Touched) (v w : Move) → disturbs t u ≡ false → Keeps
 unfolding disturbs
 keeps_spares t u v w e h k =
     record {
-      written = meet_separate (writes_to v) (writes_to w) e h.written (inside_right (writes_to w) u.read k.written);
+      written = meet_separate (writes_to v) (writes_to w) t.written (u.read ++ u.written) e h.written (both_read (writes_to w) (inr k.written));
       read = all_map (λ y. Inside y u.read) (Separate (writes_to v))
-          (λ y i. meet_separate (writes_to v) y e h.written (inside_left y u.written i)) (reads_from w) k.read;
+          (λ y i. meet_separate (writes_to v) y t.written (u.read ++ u.written) e h.written (both_read y (inl i))) (reads_from w) k.read;
     }
+  where
+    both_read : (x : Area) → Inside x u.read ⊎ Inside x u.written → Inside x (u.read ++ u.written)
+    both_read x = (some_of_both (Lies x) u.read u.written).1
 
 keeps_apart : (t u : Touched) (vs ws : List Move) → disturbs t u ≡ false → disturbs u t ≡ false → All (KeepsTo t) vs → All (KeepsTo u) ws
     → All (λ w. All (λ v. KeepApart v w) vs) ws
@@ -121,8 +117,8 @@ pieces_lie r k (x ∷ rs) b h m =
     let hi = sector_bytes * k + sector_bytes in
     let p = piece_of x b lo hi in
     let in-x = among p.from p.many x.from x.many (piece_from x b lo hi) (piece_to x b lo hi) in (
-      record { piece = here (subst (Lies (in_memory p)) (sym m.0) in-x); part = part_lies r k p h (piece_asked x b lo hi) },
-      all_map (PieceOf r k rs) (PieceOf r k (x ∷ rs)) (λ q i. record { piece = there i.piece; part = i.part })
+      record { piece = inl (subst (Lies (in_memory p)) (sym m.0) in-x); part = part_lies r k p h (piece_asked x b lo hi) },
+      all_map (PieceOf r k rs) (PieceOf r k (x ∷ rs)) (λ q i. record { piece = inr i.piece; part = i.part })
           (pieces_of rs (b + x.many) lo hi) (pieces_lie r k rs (b + x.many) h m.1),
     )
 
@@ -137,19 +133,19 @@ all_moves t v P f (p ∷ ps) h = (f p h.0, all_moves t v P f ps h.1)
 sector_keeps : (rd wr : Bool) (r : Record) (k : ℕ) → k < cond (rd || wr) r.count 1 → All (KeepsTo (touched_by rd wr r)) (sector_move_by rd wr r k)
 sector_keeps true wr r k h =
     all_moves (by_read r) (λ p. copy (in_sector r k p) memory (in_memory p).from) (PieceOf r k (data_bytes r))
-    (λ p i. record { written = inside_left (in_memory p) (status_bytes r ∷ []) i.piece; read = (here i.part, tt) })
+    (λ p i. record { written = (some_of_both (Lies (in_memory p)) (data_bytes r) (status_bytes r ∷ [])).1 (inl i.piece); read = (inl i.part, tt) })
     (pieces_at r k) (pieces_lie r k (data_bytes r) 0 h (data_memory r))
 sector_keeps false true r k h =
     all_moves (by_write r) (λ p. copy (in_memory p) (disk r.unit) (in_sector r k p).from) (PieceOf r k (data_bytes r))
-    (λ p i. record { written = here i.part; read = (i.piece, tt) })
+    (λ p i. record { written = inl i.part; read = (i.piece, tt) })
     (pieces_at r k) (pieces_lie r k (data_bytes r) 0 h (data_memory r))
 sector_keeps false false r k h = tt
 
 close_keeps : (rd wr : Bool) (d : Drives) (r : Record) → KeepsTo (touched_by rd wr r) (post memory r.iopb (closing d r))
 unfolding closing
-close_keeps true wr d r = record { written = inside_right (area memory r.iopb 4) (data_bytes r) (here (status_lies r)); read = tt }
-close_keeps false true d r = record { written = there (here (status_lies r)); read = tt }
-close_keeps false false d r = record { written = here (status_lies r); read = tt }
+close_keeps true wr d r = record { written = (some_of_both (Lies (area memory r.iopb 4)) (data_bytes r) (status_bytes r ∷ [])).1 (inr (inl (status_lies r))); read = tt }
+close_keeps false true d r = record { written = inr (inl (status_lies r)); read = tt }
+close_keeps false false d r = record { written = inl (status_lies r); read = tt }
 
 step_keeps : (d : Drives) (r : Record) → r.taken < steps_of r → All (KeepsTo (touched r)) (step_moves d r)
 unfolding steps_of touched step_moves sector_move close_move

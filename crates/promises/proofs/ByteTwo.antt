@@ -15,7 +15,7 @@ use Rattle.meaning.specs.Store.{Space, memory, Store, put, Move, post, move, mov
 use Rattle.meaning.specs.Command.{steps_of}
 use Rattle.meaning.specs.Step.{sector_move, closing_byte0, drive_status, closing, close_move, step_moves, step}
 use Rattle.meaning.proofs.Means.{Means, holds, fails}
-use Rattle.meaning.proofs.Overwrite.{sets_comm}
+use Rattle.meaning.proofs.Overwrite.{others_same}
 use Rattle.meaning.proofs.Ranges.{means_same}
 use Rattle.meaning.proofs.Spaces.{moves_append}
 
@@ -37,15 +37,7 @@ module _ (d e : Drives) (r : Record) where
 
 -- four bytes laid at i, of which the third is v or w
 third_alone : (l : List ℕ) (i a b v w f x : ℕ) → x ≢ i + 2 → get_or (sets l i (a ∷ b ∷ v ∷ f ∷ [])) x 0 ≡ get_or (sets l i (a ∷ b ∷ w ∷ f ∷ [])) x 0
-third_alone l i a b v w f x n = last v ∙ sym (last w)
-  where
-    two : List ℕ
-    two = set (set l i a) (suc i) b
-
-    last : (v : ℕ) → get_or (set (set two (suc (suc i)) v) (suc (suc (suc i))) f) x 0 ≡ get_or (set two (suc (suc (suc i))) f) x 0
-    last v =
-        ap (λ (k : List ℕ). get_or k x 0) (sets_comm two (suc (suc (suc i))) (f ∷ []) (suc (suc i)) (v ∷ []) (omega arith))
-        ∙ get_or-set_other (set two (suc (suc (suc i))) f) (suc (suc i)) x v 0 (λ e. n (omega arith))
+third_alone l i a b v w f x n = others_same (set (set l i a) (suc i) b) (suc (suc i)) (f ∷ []) v w x 0 (λ e. n (omega arith))
 
 put_third : (u : Store) (p : Space) (i a b v w f x : ℕ) → ¬ ((p ≡ memory) × (x ≡ i + 2))
     → get_or (put memory i (a ∷ b ∷ v ∷ f ∷ []) u p) x 0 ≡ get_or (put memory i (a ∷ b ∷ w ∷ f ∷ []) u p) x 0

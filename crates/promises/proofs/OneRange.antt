@@ -30,7 +30,7 @@ use Rattle.meaning.specs.Command.{reads, writes, steps_of, remaining}
 use Rattle.meaning.specs.Touch.{data_bytes, touched, disturbs, conflict, Touched}
 use Rattle.meaning.specs.Step.{sector_move, closing_byte0, drive_status, closing, close_move, step_moves, step, with_taken, stepped}
 use Rattle.meaning.specs.Run.{steps_done}
-use Rattle.meaning.proofs.Overwrite.{sets_comm}
+use Rattle.meaning.proofs.Overwrite.{first_last, others_same}
 use Rattle.meaning.proofs.Means.{Means, holds, fails, means_eq}
 use Rattle.meaning.proofs.Ranges.{means_same}
 use Rattle.meaning.proofs.Spaces.{moves_append, length_moves}
@@ -68,23 +68,16 @@ posted_but_sgm b e x small h k l n =
     go (fails o) high = let z : k ≡ 7 = omega arith in rw z (bit_7 b x small ∙ sym (bit_7 e x small))
 
 -- two runs of bytes that differ so in the first one, laid at one place
-module _ (l : List ℕ) (i : ℕ) (vs : List ℕ) where
-  abbrev rest : List ℕ
-  rest = sets l (suc i) vs
-
-  first_last : (b : ℕ) → sets l i (b ∷ vs) ≡ set rest i b
-  first_last b = sets_comm l (suc i) vs i (b ∷ []) (omega arith)
-
-  others_same : (b e y : ℕ) → y ≢ i → get_or (sets l i (b ∷ vs)) y 0 ≡ get_or (sets l i (e ∷ vs)) y 0
-  others_same b e y n = rw (first_last b, first_last e) (get_or-set_other rest i y b 0 n ∙ sym (get_or-set_other rest i y e 0 n))
-
-  first_but_sgm : (b e : ℕ) → ButSgm b e → ButSgm (get_or (sets l i (b ∷ vs)) i 0) (get_or (sets l i (e ∷ vs)) i 0)
-  first_but_sgm b e h =
-      rw (first_last b, first_last e)
-      (elim (dec_lt i (length rest)) [
-        | yes k ↦ rw (get_or-set_same rest i b 0 k, get_or-set_same rest i e 0 k) h
-        | no k ↦ rw (set_out rest i b (omega arith), set_out rest i e (omega arith)) (λ k l n. refl)
-      ])
+first_but_sgm : (l : List ℕ) (i : ℕ) (vs : List ℕ) (b e : ℕ) → ButSgm b e → ButSgm (get_or (sets l i (b ∷ vs)) i 0) (get_or (sets l i (e ∷ vs)) i 0)
+first_but_sgm l i vs b e h =
+    rw (first_last l i vs b, first_last l i vs e)
+    (elim (dec_lt i (length rest)) [
+      | yes k ↦ rw (get_or-set_same rest i b 0 k, get_or-set_same rest i e 0 k) h
+      | no k ↦ rw (set_out rest i b (omega arith), set_out rest i e (omega arith)) (λ k l n. refl)
+    ])
+  where
+    rest : List ℕ
+    rest = sets l (suc i) vs
 
 alike_refl : (a : ℕ) (s : Store) → AlikeBut a s s
 alike_refl a s = record { sizes = λ p. refl; bytes = λ p y n. refl; status = λ k l n. refl }
@@ -161,7 +154,7 @@ module _ (r q : Record) (x : Link) (o : OneRange r q x) where
         go : (p : Space) (y : ℕ) → ¬ ((p ≡ memory) × (y ≡ r.iopb)) → {z : Bool} → Means (p ≡ memory) z
             → get_or (cond z (sets (u p) r.iopb (b ∷ r.code ∷ byte2 ∷ r.fitted ∷ [])) (u p)) y 0
             ≡ get_or (cond z (sets (u p) r.iopb (e ∷ r.code ∷ byte2 ∷ r.fitted ∷ [])) (u p)) y 0
-        go p y n (holds z) = others_same (u p) r.iopb (r.code ∷ byte2 ∷ r.fitted ∷ []) b e y (λ w. n (z, w))
+        go p y n (holds z) = others_same (u p) r.iopb (r.code ∷ byte2 ∷ r.fitted ∷ []) b e y 0 (λ w. n (z, w))
         go p y n (fails o) = refl
 
     same_close : close_move d q ≡ closes (closing_byte0 q)
