@@ -96,9 +96,9 @@ pub fn above(largest: Maximum, sector: u32) -> bool
 pub fn sector_number(d: Drive, cylinder: u16, head: u8, sector: u8) -> u32
     ensures { result ≡ sector_number d cylinder head sector }
 {
-    let each = on_cylinder(d);
+    let on_cylinder = on_cylinder(d);
     let on_track = d.sector as u32 + 1;
-    of_cylinders(cylinder, each) + head as u32 * on_track + sector as u32
+    of_cylinders(cylinder, on_cylinder) + head as u32 * on_track + sector as u32
 }
 
 // The place of a number that the drive has: its whole cylinders, then the whole tracks of what is left, then the sectors of what is left then.

@@ -8,4 +8,4 @@ pub returns : goal.returns
 unfolding sector_number
 returns c =
     let a = c.args in
-    ap (λ (n : ℕ). n + a.head * (a.d.sector + 1) + a.sector) (c.of_cylinders.ensures.value ∙ ap (λ (n : ℕ). a.cylinder * n) c.on_cylinder-each.ensures.value)
+    ap (λ (n : ℕ). n + a.head * (a.d.sector + 1) + a.sector) (c.of_cylinders.ensures.value ∙ ap (λ (n : ℕ). a.cylinder * n) c.on_cylinder-on_cylinder.ensures.value)
