@@ -130,6 +130,7 @@ fn place_in(d: Drive, sector: u32) -> Result<Place, Refusal>
 }
 
 // The same, as C is told it: a number beside the place, and 0, 0, 0 for a place that is refused.
+// stays: the struct with a number beside the place is that of the C interface.
 pub fn place_of(d: Drive, sector: u32) -> Placed
     ensures { result ≡ placed d sector }
 {

@@ -31,6 +31,7 @@ fn whole_sectors(bytes: u64) -> u64
 }
 
 // The test for the end of the drive: whether so many sectors from a first one on go past it, and how many would have fitted.
+// stays: both parts are told of every start, also where the end is not passed, so no Option stands for the two.
 pub fn drive_end(d: Drive, first: u32, many: u16) -> End
     ensures { result ≡ drive_end d first many }
 {

@@ -1,5 +1,6 @@
 // The thirty bytes of an IOPB: each field (IOPB 3 to 14), read from a slice at an address.
 // Numbers of several bytes have the high byte first. Where the thirty bytes are not all in the slice, every field is 0.
+// stays: each function takes the slice and the address, since a viewer's readers stand over functions on a slice and a number (Form 4).
 #![tactic(auto)]
 
 ghost use Rattle.std.specs.Prelude.{◌≡◌, ◌<◌};

@@ -65,6 +65,7 @@ pub fn make<'a>(memory: &'a [u8], at: u32) -> Viewer<'a>
 }
 
 // The number of the making and every field, as a viewer of the IOPB at an address shows them: 0 where the making is refused.
+// stays: the struct with a number beside the fields is that of the C interface.
 pub fn view(memory: &[u8], at: u32) -> Iopb
     ensures { result ≡ view_of memory.now at }
 {
