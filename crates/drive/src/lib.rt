@@ -5,7 +5,9 @@
 ghost use Rattle.std.specs.Prelude.{◌≡◌, ◌+◌, ◌*◌, ◌≤◌, ◌<◌, true, ltb};
 ghost use Rattle.meaning.specs.Sectors.{maximum_on, per_cylinder, sector_count, largest_sector, sector_number, maxima_right, image_right};
 ghost use Rattle.meaning.specs.Place.{place_of, placed};
+ghost use Rattle.drive.specs.Placing.{placed_by};
 
+use meaning::refusals::Refusal;
 use meaning::{Count, Drive, Maximum, Place, Placed};
 
 // The bytes of a sector, and the most that an image may have.
@@ -94,7 +96,7 @@ pub fn above(largest: Maximum, sector: u32) -> bool
 pub fn sector_number(d: Drive, cylinder: u16, head: u8, sector: u8) -> u32
     ensures { result ≡ sector_number d cylinder head sector }
 {
-    let on_cylinder = per_cylinder(d).0 as u32;
+    let on_cylinder = on_cylinder(d);
     let on_track = d.sector as u32 + 1;
     of_cylinders(cylinder, on_cylinder) + head as u32 * on_track + sector as u32
 }
@@ -104,7 +106,7 @@ fn place_within(d: Drive, sector: u32) -> Place
     requires { (maxima_right d ≡ true) × (sector < sector_count d) }
     ensures { result ≡ place_of d sector }
 {
-    let on_cylinder = per_cylinder(d).0 as u32;
+    let on_cylinder = on_cylinder(d);
     let on_track = d.sector as u32 + 1;
     let rest = sector % on_cylinder;
     Place {
@@ -114,31 +116,30 @@ fn place_within(d: Drive, sector: u32) -> Place
     }
 }
 
-// The place of a number: 1 for a drive that cannot be, then 10 for a number that the drive has not, otherwise 0; with a number other than 0
-// the place is 0, 0, 0.
+// The place of a number, or why it has none: 1 for a drive that cannot be, then 10 for a number that the drive has not.
+fn place_in(d: Drive, sector: u32) -> Result<Place, Refusal>
+    ensures { placed_by result ≡ placed d sector }
+{
+    if !maxima_right(d) {
+        return Err(Refusal::WrongSize);
+    }
+    if above(largest(d), sector) {
+        return Err(Refusal::NoSector);
+    }
+    Ok(place_within(d, sector))
+}
+
+// The same, as C is told it: a number beside the place, and 0, 0, 0 for a place that is refused.
+// stays: the struct with a number beside the place is that of the C interface.
 pub fn place_of(d: Drive, sector: u32) -> Placed
     ensures { result ≡ placed d sector }
 {
-    let nowhere = Place {
-        cylinder: 0,
-        head: 0,
-        sector: 0,
-    };
-    if !maxima_right(d) {
-        return Placed {
-            place: nowhere,
-            number: 1,
-        };
-    }
-    if above(largest(d), sector) {
-        return Placed {
-            place: nowhere,
-            number: 10,
-        };
-    }
-    Placed {
-        place: place_within(d, sector),
-        number: 0,
+    match place_in(d, sector) {
+        Ok(place) => Placed { place, number: 0 },
+        Err(refusal) => Placed {
+            place: Place::default(),
+            number: u8::from(refusal),
+        },
     }
 }
 

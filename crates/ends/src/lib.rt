@@ -9,9 +9,6 @@ ghost use Rattle.meaning.specs.Ends.{drive_end, memory_end, as_byte};
 
 use meaning::{Drive, End};
 
-// The most that is posted.
-const MOST_POSTED: u8 = 255;
-
 // So many from a start on go past an end. The sum has 64 bits, since it may be more than 32 hold.
 pub fn goes_past(end: u64, start: u32, many: u32) -> bool
     ensures { result ≡ ltb end (start + many) }
@@ -23,10 +20,7 @@ pub fn goes_past(end: u64, start: u32, many: u32) -> bool
 fn from_on(end: u64, start: u32) -> u64
     ensures { result ≡ end - start }
 {
-    if end < start as u64 {
-        return 0;
-    }
-    end - start as u64
+    end.saturating_sub(start as u64)
 }
 
 // How many whole sectors so many bytes hold.
@@ -37,6 +31,7 @@ fn whole_sectors(bytes: u64) -> u64
 }
 
 // The test for the end of the drive: whether so many sectors from a first one on go past it, and how many would have fitted.
+// stays: both parts are told of every start, also where the end is not passed, so no Option stands for the two.
 pub fn drive_end(d: Drive, first: u32, many: u16) -> End
     ensures { result ≡ drive_end d first many }
 {
@@ -61,9 +56,5 @@ pub fn memory_end(memory: u64, address: u32, many: u32) -> End
 pub fn as_byte(fitted: u64) -> u8
     ensures { result ≡ as_byte fitted }
 {
-    if fitted < MOST_POSTED as u64 {
-        fitted as u8
-    } else {
-        MOST_POSTED
-    }
+    u8::try_from(fitted).unwrap_or(u8::MAX)
 }

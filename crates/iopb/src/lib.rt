@@ -1,5 +1,6 @@
 // The thirty bytes of an IOPB: each field (IOPB 3 to 14), read from a slice at an address.
 // Numbers of several bytes have the high byte first. Where the thirty bytes are not all in the slice, every field is 0.
+// stays: each function takes the slice and the address, since a viewer's readers stand over functions on a slice and a number (Form 4).
 #![tactic(auto)]
 
 ghost use Rattle.std.specs.Prelude.{◌≡◌, ◌<◌};
@@ -20,12 +21,7 @@ fn byte_of(m: &[u8], at: u32, k: usize) -> u8
     requires { k < 30 }
     ensures { result ≡ iopb.byte_of m.now at k }
 {
-    let start = at as usize;
-    if start + IOPB_BYTES <= m.len() {
-        m[start + k]
-    } else {
-        0
-    }
+    if all_in(m, at) { m[at as usize + k] } else { 0 }
 }
 
 // Bytes k and k + 1 as one number.
@@ -33,7 +29,7 @@ fn two_bytes(m: &[u8], at: u32, k: usize) -> u16
     requires { k < 29 }
     ensures { result ≡ iopb.two_bytes m.now at k }
 {
-    byte_of(m, at, k) as u16 * 256 + byte_of(m, at, k + 1) as u16
+    u16::from_be_bytes([byte_of(m, at, k), byte_of(m, at, k + 1)])
 }
 
 // Bytes k to k + 3 as one number.
@@ -41,7 +37,20 @@ fn four_bytes(m: &[u8], at: u32, k: usize) -> u32
     requires { k < 27 }
     ensures { result ≡ iopb.four_bytes m.now at k }
 {
-    two_bytes(m, at, k) as u32 * 65536 + two_bytes(m, at, k + 2) as u32
+    u32::from_be_bytes([
+        byte_of(m, at, k),
+        byte_of(m, at, k + 1),
+        byte_of(m, at, k + 2),
+        byte_of(m, at, k + 3),
+    ])
+}
+
+// Bit k of a byte.
+fn bit(byte: u8, k: u32) -> u8
+    requires { k < 8 }
+    ensures { result ≡ iopb.bit k byte }
+{
+    byte >> k & 1
 }
 
 // Byte 0 whole.
@@ -62,28 +71,28 @@ pub fn byte6(m: &[u8], at: u32) -> u8
 pub fn errs(m: &[u8], at: u32) -> u8
     ensures { result ≡ iopb.errs m.now at }
 {
-    byte_of(m, at, 0) / 128 % 2
+    bit(byte_of(m, at, 0), 7)
 }
 
 // DONE, bit 6 of byte 0.
 pub fn done(m: &[u8], at: u32) -> u8
     ensures { result ≡ iopb.done m.now at }
 {
-    byte_of(m, at, 0) / 64 % 2
+    bit(byte_of(m, at, 0), 6)
 }
 
 // CHEN, bit 5 of byte 0: another IOPB follows.
 pub fn chen(m: &[u8], at: u32) -> u8
     ensures { result ≡ iopb.chen m.now at }
 {
-    byte_of(m, at, 0) / 32 % 2
+    bit(byte_of(m, at, 0), 5)
 }
 
 // SGM, bit 4 of byte 0: scatter and gather.
 pub fn sgm(m: &[u8], at: u32) -> u8
     ensures { result ≡ iopb.sgm m.now at }
 {
-    byte_of(m, at, 0) / 16 % 2
+    bit(byte_of(m, at, 0), 4)
 }
 
 // The command, bits 3-0 of byte 0.
@@ -104,21 +113,21 @@ pub fn completion(m: &[u8], at: u32) -> u8
 pub fn wrpt(m: &[u8], at: u32) -> u8
     ensures { result ≡ iopb.wrpt m.now at }
 {
-    byte_of(m, at, 2) / 16 % 2
+    bit(byte_of(m, at, 2), 4)
 }
 
 // ONCL, bit 1 of byte 2.
 pub fn oncl(m: &[u8], at: u32) -> u8
     ensures { result ≡ iopb.oncl m.now at }
 {
-    byte_of(m, at, 2) / 2 % 2
+    bit(byte_of(m, at, 2), 1)
 }
 
 // DRDY, bit 0 of byte 2.
 pub fn drdy(m: &[u8], at: u32) -> u8
     ensures { result ≡ iopb.drdy m.now at }
 {
-    byte_of(m, at, 2) % 2
+    bit(byte_of(m, at, 2), 0)
 }
 
 // The internal status, byte 3.

@@ -1,1 +1,2 @@
+pub mod OfUnit
 pub mod Rooms

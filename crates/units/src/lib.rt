@@ -11,49 +11,45 @@ ghost use Rattle.meaning.specs.Lends.{images_of};
 ghost use Rattle.meaning.specs.Sectors.{image_right};
 ghost use Rattle.meaning.specs.Drives as drives;
 ghost use Rattle.meaning.specs.Sizes.{images_wrong};
+ghost use Rattle.units.specs.OfUnit.{of_unit};
 
 use meaning::lends::LentDisks;
 use meaning::{Drive, LentDrives};
 
-// What an absent unit counts as: all maxima 0, and open.
-fn no_drive() -> Drive
-    ensures { result ≡ drives.no_drive }
-{
-    Drive {
-        cylinder: 0,
-        head: 0,
-        sector: 0,
-        last_sector: 0,
-        protected: false,
-        present: false,
-    }
-}
-
-// A drive, if it is there.
+// A drive, if it is there; an absent unit counts as one with all maxima 0, and open.
 fn there(d: Drive) -> Drive
     ensures { result ≡ drives.there d }
 {
-    if d.present { d } else { no_drive() }
+    if d.present { d } else { Drive::default() }
 }
 
-// The drive of a unit. It is found by comparing and not by an index, so that the compiler keeps the four drives in registers.
+// A unit's own of what the units 0 to 3 have, or what is told of a unit above 3. It is found by comparing and not by an index, so that the
+// compiler keeps four drives in registers.
+fn of_unit<T: Copy>(unit: u8, unit0: T, unit1: T, unit2: T, unit3: T, above: T) -> T
+    ensures { result ≡ of_unit unit unit0 unit1 unit2 unit3 above }
+{
+    match unit {
+        0 => unit0,
+        1 => unit1,
+        2 => unit2,
+        3 => unit3,
+        _ => above,
+    }
+}
+
+// The drive of a unit.
 pub fn drive_of(l: LentDrives, unit: u8) -> Drive
     ensures { result ≡ drives.drive_of l unit }
 {
     let units = l.units;
-    if unit == 0 {
-        return there(units[0]);
-    }
-    if unit == 1 {
-        return there(units[1]);
-    }
-    if unit == 2 {
-        return there(units[2]);
-    }
-    if unit == 3 {
-        return there(units[3]);
-    }
-    no_drive()
+    there(of_unit(
+        unit,
+        units[0],
+        units[1],
+        units[2],
+        units[3],
+        Drive::default(),
+    ))
 }
 
 // A unit is there, and its image of so many bytes is over its limit or not of the drive's size, or the drive cannot be.
@@ -61,10 +57,7 @@ fn unit_wrong(l: LentDrives, unit: u8, bytes: u64) -> bool
     ensures { result ≡ ((drives.drive_of l unit).present && not (image_right (drives.drive_of l unit) bytes)) }
 {
     let d = drive_of(l, unit);
-    if d.present {
-        return !drive::image_right(d, bytes);
-    }
-    false
+    d.present && !drive::image_right(d, bytes)
 }
 
 // Some unit is such a one. Memory has no say in it.

@@ -6,7 +6,7 @@ ghost use Rattle.meaning.specs.Refusals.{told};
 ghost use Rattle.meaning.specs.Drives.{drives_of};
 ghost use Rattle.meaning.specs.Look.{look_number, looked_part, image_of, IsAll, IsPart};
 
-use crate::drive_of;
+use crate::{drive_of, of_unit};
 use meaning::lends::LentDisks;
 use meaning::refusals::Refusal;
 
@@ -32,16 +32,14 @@ pub fn look_number(disks: LentDisks<'_>, unit: u8, sector: u32) -> Result<(), Re
 fn image_of<'a>(disks: LentDisks<'a>, unit: u8) -> &'a [u8]
     ensures { IsAll (image_of unit disks.entry.image0 disks.entry.image1 disks.entry.image2 disks.entry.image3) result }
 {
-    if unit == 1 {
-        return disks.image1;
-    }
-    if unit == 2 {
-        return disks.image2;
-    }
-    if unit == 3 {
-        return disks.image3;
-    }
-    disks.image0
+    of_unit(
+        unit,
+        disks.image0,
+        disks.image1,
+        disks.image2,
+        disks.image3,
+        disks.image0,
+    )
 }
 
 // The sector's 512 bytes of the unit's image itself, or an empty part exactly where its number is not 0: which bytes of which lent run these

@@ -9,6 +9,8 @@ each_has_one_reply =
       view_memory = λ m a. told_equation _ _;
       view_at = λ m a. one_equation _;
       view_number = λ m a. one_equation _;
+      refusal = λ m a. told_equation _ _;
+      number = λ v. one_equation _;
       field = λ f v. one_equation _;
       view = λ m a. one_equation _;
     }

@@ -89,8 +89,15 @@ module _ {M : Type 1} {𝓤 : Ura M} (𝓛 : Logic 𝓤) (w : Width) (f : List �
 module _ {M : Type 1} {𝓤 : Ura M} (𝓛 : Logic 𝓤) (w : Width) (f : List ℕ → ℕ → ℕ) (κ : Lft) (q : Share) (d : Viewer) where
   open 𝓛 use {H}
 
+  -- the viewer's type and laws, its machine value, and its fields' values
+  abbrev D : Declared
+  D = T.the_type (named_lft 1 0 tt (κ, tt))
+
+  abbrev L : LL.Laws D
+  L = T'.the_laws (named_lft 1 0 tt (κ, tt))
+
   abbrev mach : Val
-  mach = T'.lowered d
+  mach = LL.val D L d
 
   abbrev Post : Val → SProp 𝓤
   Post = (walk_of 𝓛 (ended w) (stayed w) (clauses 𝓛 w f)).post (((κ, tt), (q, tt), tt, (d, tt), (mach ∷ [], tt)), tt)
@@ -101,15 +108,8 @@ module _ {M : Type 1} {𝓤 : Ura M} (𝓛 : Logic 𝓤) (w : Width) (f : List �
   abbrev Entry : SProp 𝓤
   Entry = on_entry 𝓛 (signature w) (κ, tt) (q, tt) (d, tt) (mach ∷ [], tt)
 
-  -- the viewer's type and laws, and its fields' values
-  abbrev D : Declared
-  D = T.the_type (named_lft 1 0 tt (κ, tt))
-
-  abbrev L : LL.Laws D
-  L = T'.the_laws (named_lft 1 0 tt (κ, tt))
-
   abbrev vd : Values D.parts
-  vd = (d.memory, (d.at, (d.number, tt)))
+  vd = (d.memory, (d.at, (d.made, tt)))
 
   abbrev Called : Contract 𝓤
   Called = callee.Meant 𝓛 (number w) (gives w f)

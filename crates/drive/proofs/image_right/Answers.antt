@@ -1,5 +1,4 @@
 -- `drive::image_right` meets its contract: the limit's test, then the maxima's beside that of the size, decide the parts of the "and".
-use native.Mathlib.Omega.{arith}
 use mathlib.Core.Bool.{and-false}
 use borrow.Author.Tests.{le-leb, lt-leb}
 use Rattle.meaning.specs.Sectors.{image_right}
@@ -8,9 +7,6 @@ use Rattle.drive.proofs.image_right.Goals as goal
 pub returns-then-bytes-gt-IMAGE_LIMIT : goal.returns-then-bytes-gt-IMAGE_LIMIT
 unfolding image_right
 returns-then-bytes-gt-IMAGE_LIMIT c = simp (lt-leb _ _ c.if-bytes-gt-IMAGE_LIMIT.true, and-false)
-
-pub overflow_mul-result : goal.overflow_mul-result
-overflow_mul-result c = omega arith
 
 pub returns : goal.returns
 unfolding image_right

@@ -1,15 +1,8 @@
--- `drive::largest` meets its contract: there is one sector at least, and 2 to the 32 at most.
-use native.Mathlib.Omega.{arith}
+-- `drive::largest` meets its contract: it is one less than the count.
 use mathlib.Core.Path.{ap}
 use Prim.Native.Nat.{ℕ, ◌-◌}
 use Rattle.meaning.specs.Sectors.{largest_sector}
 use Rattle.drive.proofs.largest.Goals as goal
-
-pub overflow_sub-result : goal.overflow_sub-result
-overflow_sub-result c = omega arith
-
-pub overflow_cast-result : goal.overflow_cast-result
-overflow_cast-result c = omega arith
 
 pub returns : goal.returns
 unfolding largest_sector

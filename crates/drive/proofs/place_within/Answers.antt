@@ -20,14 +20,11 @@ within d sector n e h =
     rw e (o.cylinder_in, o.head_in, omega (arith, o.sector_in))
 
 pub overflow_cast-result : goal.overflow_cast-result
-overflow_cast-result c = let h = within _ _ _ c.per_cylinder-on_cylinder.ensures.value c.requires in search rules
+overflow_cast-result c = let h = within _ _ _ c.on_cylinder-on_cylinder.ensures.value c.requires in search rules
 
 pub overflow_cast-result-2 : goal.overflow_cast-result-2
-overflow_cast-result-2 c = let h = within _ _ _ c.per_cylinder-on_cylinder.ensures.value c.requires in search rules
-
-pub overflow_cast-result-3 : goal.overflow_cast-result-3
-overflow_cast-result-3 c = let h = within _ _ _ c.per_cylinder-on_cylinder.ensures.value c.requires in search rules
+overflow_cast-result-2 c = let h = within _ _ _ c.on_cylinder-on_cylinder.ensures.value c.requires in search rules
 
 pub returns : goal.returns
 unfolding place_of
-returns c = rw c.per_cylinder-on_cylinder.ensures.value refl
+returns c = rw c.on_cylinder-on_cylinder.ensures.value refl

@@ -1,12 +1,11 @@
--- `iopb::byte_of` meets its contract: the test that led to each return says which case of `byte_of` holds.
-use borrow.Author.Tests.{le-leb, lt-leb}
+-- `iopb::byte_of` meets its contract: the test says which case of the definition holds.
 use Rattle.meaning.specs.Fields.{byte_of}
 use Rattle.iopb.proofs.byte_of.Goals as goal
 
-pub returns-then-start-m : goal.returns-then-start-m
+pub returns-then-all_in : goal.returns-then-all_in
 unfolding byte_of
-returns-then-start-m c = simp (le-leb _ _ c.if-start-m.true)
+returns-then-all_in c = simp (← c.all_in.ensures, c.if-all_in.true)
 
-pub returns-else-start-m : goal.returns-else-start-m
+pub returns-else-all_in : goal.returns-else-all_in
 unfolding byte_of
-returns-else-start-m c = simp (lt-leb _ _ c.if-start-m.false)
+returns-else-all_in c = simp (← c.all_in.ensures, c.if-all_in.false)

@@ -1,25 +1,18 @@
--- `drive_of` meets its contract: a unit that is none of the four is above 3.
-use native.Mathlib.Omega.{arith}
-use borrow.Author.Tests.{le-ltb}
-use Rattle.meaning.specs.Drives.{drive_of}
+-- `drive_of` meets its contract: the drive by unit is one of the four, or none.
+use borrow.Author.Rules.{rules}
+use mathlib.Core.Path.{◌≡◌, ap, ◌∙◌}
+use lib.ListN.{get_or}
+use lib.Dec.{ltb}
+use Rattle.meaning.specs.Drives.{drive_of, there, no_drive, most_units}
+use Rattle.units.specs.OfUnit.{of_unit}
+use Rattle.units.proofs.ByUnit.{of_unit_in, there_or_none}
 use Rattle.units.proofs.drive_of.Goals as goal
-
-pub returns-then-unit-eq0 : goal.returns-then-unit-eq0
-unfolding drive_of
-returns-then-unit-eq0 c = simp (c.if-unit-eq0.true, c.there.ensures)
-
-pub returns-then-unit-eq1 : goal.returns-then-unit-eq1
-unfolding drive_of
-returns-then-unit-eq1 c = simp (c.if-unit-eq1.true, c.there-then-unit-eq1.ensures)
-
-pub returns-then-unit-eq2 : goal.returns-then-unit-eq2
-unfolding drive_of
-returns-then-unit-eq2 c = simp (c.if-unit-eq2.true, c.there-then-unit-eq2.ensures)
-
-pub returns-then-unit-eq3 : goal.returns-then-unit-eq3
-unfolding drive_of
-returns-then-unit-eq3 c = simp (c.if-unit-eq3.true, c.there-then-unit-eq3.ensures)
 
 pub returns : goal.returns
 unfolding drive_of
-returns c = simp (le-ltb c.args.unit 4 (omega (arith, c.if-unit-eq3.false, c.if-unit-eq2.false, c.if-unit-eq1.false, c.if-unit-eq0.false)), c.no_drive.ensures)
+returns c =
+    let units = c.args.l.units in
+    let u = c.args.unit in
+    let none : c.default.result ≡ no_drive = search rules in
+    let own = c.of_unit.ensures ∙ ap (of_unit u (get_or units 0 no_drive) (get_or units 1 no_drive) (get_or units 2 no_drive) (get_or units 3 no_drive)) none ∙ of_unit_in units no_drive u in
+    c.there.ensures ∙ ap there own ∙ there_or_none (ltb u most_units) (get_or units u no_drive)

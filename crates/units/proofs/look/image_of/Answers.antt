@@ -1,21 +1,9 @@
--- `image_of` meets its contract.
-use mathlib.Core.Path.{refl}
-use borrow.Author.Tests.{ne_eqb}
-use Rattle.meaning.specs.Look.{image_of}
+-- `image_of` meets its contract: of four images the unit's own is chosen, and of no unit the first.
+use mathlib.Core.Path.{refl, ◌∙◌}
+use Rattle.units.proofs.ByUnit.{of_unit_image}
 use Rattle.units.proofs.look.image_of.Goals as goal
 
-pub returns-then-unit-eq1 : goal.returns-then-unit-eq1
-unfolding image_of
-returns-then-unit-eq1 c = rw c.if-unit-eq1.true (refl, refl, refl)
-
-pub returns-then-unit-eq2 : goal.returns-then-unit-eq2
-unfolding image_of
-returns-then-unit-eq2 c = rw c.if-unit-eq2.true (refl, refl, refl)
-
-pub returns-then-unit-eq3 : goal.returns-then-unit-eq3
-unfolding image_of
-returns-then-unit-eq3 c = rw c.if-unit-eq3.true (refl, refl, refl)
-
 pub returns : goal.returns
-unfolding image_of
-returns c = rw (ne_eqb _ _ c.if-unit-eq1.false, ne_eqb _ _ c.if-unit-eq2.false, ne_eqb _ _ c.if-unit-eq3.false) (refl, refl, refl)
+returns c =
+    let d = c.args.disks in
+    rw (c.of_unit.ensures ∙ of_unit_image c.args.unit d.image0 d.image1 d.image2 d.image3) (refl, refl, refl)

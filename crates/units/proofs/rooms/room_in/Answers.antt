@@ -6,6 +6,6 @@ pub returns-then-d : goal.returns-then-d
 unfolding room_in
 returns-then-d c = simp c.if-d.true (λ j. record { sectors = record { 0 = c.sectors.ensures.value j }; protected = c.args.d.protected })
 
-pub returns : goal.returns
+pub returns-else-d : goal.returns-else-d
 unfolding room_in
-returns c = simp (c.if-d.false, c.no_room.ensures)
+returns-else-d c = simp c.if-d.false

@@ -1,12 +1,20 @@
--- `rooms_of` meets its contract: unit by unit it is what the calls ensure.
-use mathlib.Core.Path.{ap, ◌∙◌}
+-- `rooms_of` meets its contract: each room is what `room_in` gives of the drive there.
+use borrow.Author.Rules.{rules}
+use mathlib.Core.Path.{◌≡◌, sym, ◌∙◌}
 use mathlib.Core.List.{[], ◌∷◌}
-use Rattle.units.specs.Rooms.{room_in}
+use lib.ListN.{get_or}
+use Rattle.meaning.specs.Drives.{no_drive}
+use Rattle.units.specs.Rooms.{no_room, room_in}
+use Rattle.units.proofs.ByUnit.{four, rooms_lent}
 use Rattle.units.proofs.rooms.rooms_of.Goals as goal
 
 pub returns : goal.returns
-returns c = let unit0 = c.room_in-unit0.ensures ∙ ap room_in c.drive_of.ensures in
-    let unit1 = c.room_in-unit1.ensures ∙ ap room_in c.drive_of-2.ensures in
-    let unit2 = c.room_in-unit2.ensures ∙ ap room_in c.drive_of-3.ensures in
-    let unit3 = c.room_in-unit3.ensures ∙ ap room_in c.drive_of-4.ensures in
-    λ j. record { units = unit0 j ∷ unit1 j ∷ unit2 j ∷ unit3 j ∷ [] }
+returns c =
+    let ds = c.args.l.units in
+    let rs = c.map.result in
+    let unit0 : get_or rs 0 no_room ≡ room_in (get_or ds 0 no_drive) = search rules in
+    let unit1 : get_or rs 1 no_room ≡ room_in (get_or ds 1 no_drive) = search rules in
+    let unit2 : get_or rs 2 no_room ≡ room_in (get_or ds 2 no_drive) = search rules in
+    let unit3 : get_or rs 3 no_room ≡ room_in (get_or ds 3 no_drive) = search rules in
+    let units = four rs no_room c.map.ensures.items.long ∙ (λ j. unit0 j ∷ unit1 j ∷ unit2 j ∷ unit3 j ∷ []) ∙ sym (rooms_lent c.args.l) in
+    λ j. record { units = units j }

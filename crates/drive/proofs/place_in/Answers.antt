@@ -1,10 +1,10 @@
--- `drive::place_of` meets its contract: each test decides a row of its numbers, and a number of 0 leaves what `place_within` asks.
+-- `drive::place_in` meets its contract: each test decides a row of the numbers, and what passes both is what `place_within` asks.
 use mathlib.Core.Path.{sym, ap, ◌∙◌}
 use Prim.Native.Nat.{ℕ}
 use lib.Dec.{ltb}
 use Rattle.meaning.specs.Place.{placed}
 use Rattle.meaning.proofs.Numbering.{below_count}
-use Rattle.drive.proofs.place_of.Goals as goal
+use Rattle.drive.proofs.place_in.Goals as goal
 
 pub returns-then-not-maxima_right : goal.returns-then-not-maxima_right
 unfolding placed
