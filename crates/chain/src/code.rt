@@ -1,15 +1,48 @@
 // What the walk copies from an IOPB, and what it fixes of its command: the code that it will get, and how many sectors would have fitted.
 // First comes what every command is asked, then what only a transfer is asked, then what its data is asked; the first row that applies
 // decides. The drive is always that of the command's own unit.
-ghost use Rattle.std.specs.Prelude.{◌≡◌, ◌*◌, not, ◌&&◌, ◌||◌, ltb, eqb, take};
+ghost use Rattle.std.specs.Prelude.{◌≡◌, ◌*◌, not, ◌&&◌, ◌||◌, ◌≤◌, length, ltb, eqb};
 ghost use Rattle.meaning.specs.Sectors.{sector_bytes, maximum_on};
 ghost use Rattle.meaning.specs.Ranges.{bytes};
+ghost use Rattle.meaning.specs.Links.{most_links};
 ghost use Rattle.meaning.specs.Ends.{drive_end, memory_end};
 ghost use Rattle.meaning.specs.Code.{copied_at, link_count, transfer_rows, chained, odd, gathers, command_in, nop, read, write, first_sector};
-ghost use Rattle.chain.specs.Coding.{to_read, fixed_as, ended_as, verdict_of, early_rows, plain_rows, list_code, late_verdict};
+ghost use Rattle.chain.specs.Coding.{to_read, fixed_as, fault_fixes, verdict_by, verdict_of, early_rows, plain_rows, list_code, late_verdict};
 
 use crate::links;
 use meaning::{Copied, Drive, End, Link};
+
+// A row of the rules that applies to a command, which then fails: each gives its code (Code 1 to 16), and two tell how many sectors would
+// have fitted (Code 18).
+#[derive(Clone, Copy, Debug, PartialEq, Eq)]
+pub enum Fault {
+    // 1EH: chained, and the next address is odd
+    NextAlignment,
+    // 14H: no such command, or not with this SGM or byte 4
+    Unimplemented,
+    // 42H: the unit is absent
+    NotReady,
+    // 13H
+    CountZero,
+    // 10H, 11H and 12H: above its maximum
+    CylinderAbove,
+    HeadAbove,
+    SectorAbove,
+    // 10H: sectors past the end of the drive, where so many would have fitted
+    PastDrive(u8),
+    // 90H: a Write Data on a protected drive
+    Protected,
+    // 4BH: the link list is not all in memory
+    ListOutside,
+    // 1CH: the ranges of the list have not the bytes of the sectors
+    ListLength,
+    // 1FH: a range of the list begins at an odd address
+    ListAlignment,
+    // 4BH: a range of the list ends past the end of memory
+    RangeOutside,
+    // 4BH: data without a list past the end of memory, where so many sectors would have fitted
+    PastMemory(u8),
+}
 
 // What the walk fixes of a command: its code, and how many sectors would have fitted.
 #[derive(Clone, Copy)]
@@ -25,11 +58,39 @@ fn fixed(code: u8, fitted: u8) -> Verdict
     Verdict { code, fitted }
 }
 
-// The code of an end that is passed, and what its test tells.
-fn ended(code: u8, end: End) -> Verdict
-    ensures { result ≡ ended_as code end }
-{
-    fixed(code, ends::as_byte(end.fitted))
+impl From<Fault> for Verdict {
+    ghost from_gives = { λ f v. v ≡ fault_fixes f };
+
+    fn from(fault: Fault) -> Verdict {
+        match fault {
+            Fault::NextAlignment => fixed(0x1E, 0),
+            Fault::Unimplemented => fixed(0x14, 0),
+            Fault::NotReady => fixed(0x42, 0),
+            Fault::CountZero => fixed(0x13, 0),
+            Fault::CylinderAbove => fixed(0x10, 0),
+            Fault::HeadAbove => fixed(0x11, 0),
+            Fault::SectorAbove => fixed(0x12, 0),
+            Fault::PastDrive(fitted) => fixed(0x10, fitted),
+            Fault::Protected => fixed(0x90, 0),
+            Fault::ListOutside => fixed(0x4B, 0),
+            Fault::ListLength => fixed(0x1C, 0),
+            Fault::ListAlignment => fixed(0x1F, 0),
+            Fault::RangeOutside => fixed(0x4B, 0),
+            Fault::PastMemory(fitted) => fixed(0x4B, fitted),
+        }
+    }
+}
+
+// A command that no row finds at fault has code 00.
+impl From<Result<(), Fault>> for Verdict {
+    ghost from_gives = { λ r v. v ≡ verdict_by r };
+
+    fn from(asked: Result<(), Fault>) -> Verdict {
+        match asked {
+            Ok(()) => fixed(0x00, 0),
+            Err(fault) => Verdict::from(fault),
+        }
+    }
 }
 
 // The fields of an IOPB that the walk keeps.
@@ -130,52 +191,52 @@ fn memory_end(c: Copied, memory: u64) -> End
     ends::memory_end(memory, c.address, many)
 }
 
-// What is fixed of a transfer, before its data is looked at. `first` is the number of its first sector.
-fn transfer_verdict(c: Copied, d: Drive, first: u32) -> Verdict
+// What is asked of a transfer, before its data is looked at. `first` is the number of its first sector.
+fn ask_transfer(c: Copied, d: Drive, first: u32) -> Result<(), Fault>
     requires { first ≡ first_sector d c }
-    ensures { result ≡ verdict_of (transfer_rows c d) }
+    ensures { verdict_by result ≡ verdict_of (transfer_rows c d) }
 {
     if !d.present {
-        return fixed(0x42, 0);
+        return Err(Fault::NotReady);
     }
     if c.count == 0 {
-        return fixed(0x13, 0);
+        return Err(Fault::CountZero);
     }
     if d.cylinder < c.cylinder {
-        return fixed(0x10, 0);
+        return Err(Fault::CylinderAbove);
     }
     if d.head < c.head {
-        return fixed(0x11, 0);
+        return Err(Fault::HeadAbove);
     }
     if sector_above(c, d) {
-        return fixed(0x12, 0);
+        return Err(Fault::SectorAbove);
     }
     let end = drive_end(c, d, first);
     if end.past {
-        return ended(0x10, end);
+        return Err(Fault::PastDrive(ends::as_byte(end.fitted)));
     }
     if forbidden(c, d) {
-        return fixed(0x90, 0);
+        return Err(Fault::Protected);
     }
-    fixed(0x00, 0)
+    Ok(())
 }
 
-// What is fixed of a command by the rows that do not look at its data: what every command is asked, and then what a transfer is asked.
+// What is asked of a command by the rows that do not look at its data: what every command is asked, and then what a transfer is asked.
 // `first` is the number of its first sector.
-pub(crate) fn early_verdict(c: Copied, d: Drive, first: u32) -> Verdict
+pub(crate) fn ask_early(c: Copied, d: Drive, first: u32) -> Result<(), Fault>
     requires { first ≡ first_sector d c }
-    ensures { result ≡ verdict_of (early_rows c d) }
+    ensures { verdict_by result ≡ verdict_of (early_rows c d) }
 {
     if misaligned(c) {
-        return fixed(0x1E, 0);
+        return Err(Fault::NextAlignment);
     }
     if unimplemented(c) {
-        return fixed(0x14, 0);
+        return Err(Fault::Unimplemented);
     }
     if c.byte0 % 16 == 0 {
-        return fixed(0x00, 0);
+        return Ok(());
     }
-    transfer_verdict(c, d, first)
+    ask_transfer(c, d, first)
 }
 
 // How many elements the link list has: bits 7-3 of byte 6, where 0 means 32.
@@ -186,12 +247,12 @@ fn link_count(c: Copied) -> u16
     if n == 0 { links::MOST_LINKS } else { n as u16 }
 }
 
-// How many elements the walk reads of a command with this code so far: none where it has a code already, or no list, or one that is not
-// all in a memory of so many bytes.
-pub(crate) fn links_to_read(c: Copied, early: u8, memory: u64) -> u16
-    ensures { result ≡ to_read c early memory }
+// How many elements the walk reads of a command that was asked so far: none where it is at fault, or has no list, or one that is not all in a
+// memory of so many bytes.
+pub(crate) fn links_to_read(c: Copied, early: Result<(), Fault>, memory: u64) -> u16
+    ensures { result ≡ to_read c (verdict_by early).code memory }
 {
-    if early != 0 {
+    if early.is_err() {
         return 0;
     }
     if !has_list(c) {
@@ -204,56 +265,53 @@ pub(crate) fn links_to_read(c: Copied, early: u8, memory: u64) -> u16
     n
 }
 
-// What is fixed of a command without a list that was read, by its data: a No Operation has none; a list that was not read lies outside
-// memory, and nothing is told of it.
-fn plain_verdict(c: Copied, memory: u64) -> Verdict
-    ensures { result ≡ verdict_of (plain_rows c memory) }
+// What the data of a command is asked without a list that was read: a No Operation has none; a list that was not read lies outside memory.
+fn ask_plain(c: Copied, memory: u64) -> Result<(), Fault>
+    ensures { verdict_by result ≡ verdict_of (plain_rows c memory) }
 {
     if c.byte0 % 16 == 0 {
-        return fixed(0x00, 0);
+        return Ok(());
     }
     if has_list(c) {
-        return fixed(0x4B, 0);
+        return Err(Fault::ListOutside);
     }
     let end = memory_end(c, memory);
     if end.past {
-        return ended(0x4B, end);
+        return Err(Fault::PastMemory(ends::as_byte(end.fitted)));
     }
-    fixed(0x00, 0)
+    Ok(())
 }
 
-// The code of a transfer by the first n ranges of its list, which was read.
-fn list_code(count: u16, memory: u64, list: [Link; 32], n: u16) -> u8
-    ensures { result ≡ list_code count memory (take n list) }
+// What the ranges of a list that was read are asked, for a transfer of so many sectors.
+fn ask_list(count: u16, memory: u64, list: &[Link]) -> Result<(), Fault>
+    requires { length list.now ≤ most_links }
+    ensures { verdict_by result ≡ fixed_as (list_code count memory list.now) 0 }
 {
-    if links::bytes_in(list, n) != drive::SECTOR_BYTES as u32 * count as u32 {
-        return 0x1C;
+    if links::bytes_in(list) != drive::SECTOR_BYTES as u32 * count as u32 {
+        return Err(Fault::ListLength);
     }
-    if links::some_odd(list, n) {
-        return 0x1F;
+    if links::some_odd(list) {
+        return Err(Fault::ListAlignment);
     }
-    if links::some_outside(list, n, memory) {
-        return 0x4B;
+    if links::some_outside(list, memory) {
+        return Err(Fault::RangeOutside);
     }
-    0x00
+    Ok(())
 }
 
-// What is fixed of a command: what came early, and then what its data is asked. The first n elements of the list are those that the walk
-// read; of a command with a list nothing is told here. memory is its length.
-pub(crate) fn final_verdict(
+// What a command is asked: what it was asked early, and then what its data is. The list is what the walk read of it, and memory is its length.
+pub(crate) fn ask_all(
     c: Copied,
-    early: Verdict,
+    early: Result<(), Fault>,
     memory: u64,
-    list: [Link; 32],
-    n: u16,
-) -> Verdict
-    ensures { result ≡ late_verdict c early memory (take n list) n }
+    list: &[Link],
+) -> Result<(), Fault>
+    requires { length list.now ≤ most_links }
+    ensures { verdict_by result ≡ late_verdict c (verdict_by early) memory list.now (length list.now) }
 {
-    if early.code != 0 {
-        return early;
+    early?;
+    if list.is_empty() {
+        return ask_plain(c, memory);
     }
-    if n == 0 {
-        return plain_verdict(c, memory);
-    }
-    fixed(list_code(c.count, memory, list, n), 0)
+    ask_list(c.count, memory, list)
 }

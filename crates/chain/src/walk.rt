@@ -11,6 +11,7 @@ ghost use Rattle.chain.specs.Found.{walked_of, finding_of, found_of, chain_for};
 ghost use Rattle.chain.specs.Records.{record_at, plain_record_at, filled_at};
 ghost use Rattle.chain.specs.Past.{AllEnd};
 
+use crate::code::Verdict;
 use crate::{code, links, ranges, sizes};
 use meaning::lends::LentDisks;
 use meaning::refusals::Refusal;
@@ -31,11 +32,12 @@ fn record_of(memory: &[u8], c: Copied, at: u32, d: Drive) -> Record
     ensures { result ≡ record_of c at d memory.now }
 {
     let first = code::first_sector(c, d);
-    let early = code::early_verdict(c, d, first);
+    let early = code::ask_early(c, d, first);
     let length = memory.len() as u64;
-    let ranges = code::links_to_read(c, early.code, length);
+    let ranges = code::links_to_read(c, early, length);
     let list = links::links_at(memory, c.address as usize, ranges as usize);
-    let verdict = code::final_verdict(c, early, length, list, ranges);
+    let asked = code::ask_all(c, early, length, &list[..ranges as usize]);
+    let verdict = Verdict::from(asked);
     Record {
         iopb: at,
         address: c.address,
@@ -152,8 +154,9 @@ pub fn plain_record_at(memory: &[u8], l: LentDrives, at: u32) -> Record
     let c = code::copied(memory, at);
     let d = units::drive_of(l, c.unit);
     let first = code::first_sector(c, d);
-    let early = code::early_verdict(c, d, first);
-    let verdict = code::final_verdict(c, early, memory.len() as u64, list, 0);
+    let early = code::ask_early(c, d, first);
+    let asked = code::ask_all(c, early, memory.len() as u64, &[]);
+    let verdict = Verdict::from(asked);
     Record {
         iopb: at,
         address: c.address,

@@ -1,11 +1,11 @@
--- `chain::code::list_code` meets its contract: each test decides, or leaves it to the next.
+-- `chain::code::ask_list` meets its contract: each test decides, or leaves it to the next.
 use mathlib.Core.Path.{sym, ap, ◌∙◌}
 use Prim.Native.Nat.{ℕ, ◌*◌}
 use lib.Dec.{eqb}
 use borrow.Author.Tests.{eq-eqb, ne_eqb}
 use Rattle.meaning.specs.Sectors.{sector_bytes}
 use Rattle.chain.specs.Coding.{list_code}
-use Rattle.chain.proofs.code.list_code.Goals as goal
+use Rattle.chain.proofs.code.ask_list.Goals as goal
 
 pub returns-then-bytes_in-count : goal.returns-then-bytes_in-count
 unfolding list_code
