@@ -10,14 +10,22 @@ use Rattle.meaning.specs.Sectors.{sector_bytes}
 use Rattle.meaning.specs.Ranges.{bytes}
 use Rattle.meaning.specs.Links.{range_of}
 use Rattle.meaning.specs.Ends.{memory_end, as_byte}
-use Rattle.meaning.specs.Code.{nop, command_in, gathers, odd, link_count, list_outside, outside, command_rows, transfer_rows}
+use Rattle.meaning.specs.Code.{nop, write, read, command_in, gathers, odd, link_count, list_outside, outside, command_rows, transfer_rows}
 use Rattle.chain.specs.declared.code.Verdict.{Verdict}
+use Rattle.chain.specs.declared.code.Command.{Command}
+use Rattle.chain.specs.declared.code.Command.TheVariants.{NoOperation, WriteData, ReadData}
 use Rattle.chain.specs.declared.code.Fault.{Fault}
 use Rattle.chain.specs.declared.code.Fault.TheVariants.{NextAlignment, Unimplemented, NotReady, CountZero, CylinderAbove, HeadAbove, SectorAbove, PastDrive, Protected, ListOutside, ListLength, ListAlignment, RangeOutside, PastMemory}
 
 -- how many elements of a list the walk reads
 unfoldable pub to_read : Copied → ℕ → ℕ → ℕ
 to_read c early n = cond (eqb early 0 && gathers c) (cond (list_outside c n) 0 (link_count c)) 0
+
+-- the number of a command, in bits 3-0 of byte 0
+abbrev pub command_number : Command → ℕ
+command_number NoOperation = nop
+command_number WriteData = write
+command_number ReadData = read
 
 -- a code, and what is told beside it
 abbrev pub fixed_as : ℕ → ℕ → Verdict

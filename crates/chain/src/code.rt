@@ -7,10 +7,31 @@ ghost use Rattle.meaning.specs.Ranges.{bytes};
 ghost use Rattle.meaning.specs.Links.{most_links};
 ghost use Rattle.meaning.specs.Ends.{drive_end, memory_end};
 ghost use Rattle.meaning.specs.Code.{copied_at, link_count, transfer_rows, chained, odd, gathers, command_in, nop, read, write, first_sector};
-ghost use Rattle.chain.specs.Coding.{to_read, fixed_as, fault_fixes, verdict_by, verdict_of, early_rows, plain_rows, list_code, late_verdict};
+ghost use Rattle.chain.specs.Coding.{command_number, to_read, fixed_as, fault_fixes, verdict_by, verdict_of, early_rows, plain_rows, list_code, late_verdict};
 
 use crate::links;
 use meaning::{Copied, Drive, End, Link};
+
+// The commands that the board knows.
+#[derive(Clone, Copy, Debug, PartialEq, Eq)]
+pub enum Command {
+    NoOperation,
+    WriteData,
+    ReadData,
+}
+
+impl From<Command> for u8 {
+    ghost from_gives = { λ c n. n ≡ command_number c };
+
+    // as bits 3-0 of byte 0 ask for it
+    fn from(command: Command) -> u8 {
+        match command {
+            Command::NoOperation => 0,
+            Command::WriteData => 1,
+            Command::ReadData => 2,
+        }
+    }
+}
 
 // A row of the rules that applies to a command, which then fails: each gives its code (Code 1 to 16), and two tell how many sectors would
 // have fitted (Code 18).
@@ -124,14 +145,18 @@ pub fn copied(memory: &[u8], at: u32) -> Copied
     fields_of(&memory[from..to], 0)
 }
 
+// CHEN set: another command follows, if the next address is even.
+pub(crate) fn chained(c: Copied) -> bool
+    ensures { result ≡ chained c }
+{
+    c.byte0 / 32 % 2 == 1
+}
+
 // CHEN set and the next address odd.
 pub(crate) fn misaligned(c: Copied) -> bool
     ensures { result ≡ (chained c && odd c.next) }
 {
-    if c.byte0 / 32 % 2 != 1 {
-        return false;
-    }
-    c.next % 2 == 1
+    chained(c) && c.next % 2 == 1
 }
 
 // SGM set: a transfer has a link list.
@@ -141,17 +166,20 @@ pub(crate) fn has_list(c: Copied) -> bool
     c.byte0 / 16 % 2 == 1
 }
 
-// A command above 2, or SGM with No Operation, or byte 4 not zero.
+// Byte 0 asks for this command.
+fn asks(c: Copied, command: Command) -> bool
+    ensures { result ≡ eqb (command_in c.byte0) (command_number command) }
+{
+    c.byte0 % 16 == u8::from(command)
+}
+
+// A command above the last one, or SGM with No Operation, or byte 4 not zero.
 fn unimplemented(c: Copied) -> bool
     ensures { result ≡ (ltb read (command_in c.byte0) || gathers c && eqb (command_in c.byte0) nop || not (eqb c.subfunction 0)) }
 {
-    if 2 < c.byte0 % 16 {
-        return true;
-    }
-    if has_list(c) & (c.byte0 % 16 == 0) {
-        return true;
-    }
-    c.subfunction != 0
+    u8::from(Command::ReadData) < c.byte0 % 16
+        || has_list(c) && asks(c, Command::NoOperation)
+        || c.subfunction != 0
 }
 
 // The number of the command's first sector.
@@ -168,19 +196,11 @@ fn sector_above(c: Copied, d: Drive) -> bool
     drive::above(drive::maximum_on(d, c.head), c.sector as u32)
 }
 
-// The test for the end of the drive: of the command's sectors, where `first` is the number of the first of them.
-fn drive_end(c: Copied, d: Drive, first: u32) -> End
-    requires { first ≡ first_sector d c }
-    ensures { result ≡ drive_end d (first_sector d c) c.count }
-{
-    ends::drive_end(d, first, c.count)
-}
-
 // Write Data and the drive is protected.
 fn forbidden(c: Copied, d: Drive) -> bool
     ensures { result ≡ (eqb (command_in c.byte0) write && d.protected) }
 {
-    (c.byte0 % 16 == 1) & d.protected
+    asks(c, Command::WriteData) && d.protected
 }
 
 // The test for the end of memory: of the 512 x count bytes from the data address on.
@@ -192,6 +212,7 @@ fn memory_end(c: Copied, memory: u64) -> End
 }
 
 // What is asked of a transfer, before its data is looked at. `first` is the number of its first sector.
+#[tactic(auto, unfolding(crate::specs::Coding::verdict_of))]
 fn ask_transfer(c: Copied, d: Drive, first: u32) -> Result<(), Fault>
     requires { first ≡ first_sector d c }
     ensures { verdict_by result ≡ verdict_of (transfer_rows c d) }
@@ -211,7 +232,7 @@ fn ask_transfer(c: Copied, d: Drive, first: u32) -> Result<(), Fault>
     if sector_above(c, d) {
         return Err(Fault::SectorAbove);
     }
-    let end = drive_end(c, d, first);
+    let end = ends::drive_end(d, first, c.count);
     if end.past {
         return Err(Fault::PastDrive(ends::as_byte(end.fitted)));
     }
@@ -223,6 +244,7 @@ fn ask_transfer(c: Copied, d: Drive, first: u32) -> Result<(), Fault>
 
 // What is asked of a command by the rows that do not look at its data: what every command is asked, and then what a transfer is asked.
 // `first` is the number of its first sector.
+#[tactic(auto, unfolding(crate::specs::Coding::verdict_of))]
 pub(crate) fn ask_early(c: Copied, d: Drive, first: u32) -> Result<(), Fault>
     requires { first ≡ first_sector d c }
     ensures { verdict_by result ≡ verdict_of (early_rows c d) }
@@ -233,7 +255,7 @@ pub(crate) fn ask_early(c: Copied, d: Drive, first: u32) -> Result<(), Fault>
     if unimplemented(c) {
         return Err(Fault::Unimplemented);
     }
-    if c.byte0 % 16 == 0 {
+    if asks(c, Command::NoOperation) {
         return Ok(());
     }
     ask_transfer(c, d, first)
@@ -249,13 +271,11 @@ fn link_count(c: Copied) -> u16
 
 // How many elements the walk reads of a command that was asked so far: none where it is at fault, or has no list, or one that is not all in a
 // memory of so many bytes.
+#[tactic(auto, unfolding(crate::specs::Coding::to_read))]
 pub(crate) fn links_to_read(c: Copied, early: Result<(), Fault>, memory: u64) -> u16
     ensures { result ≡ to_read c (verdict_by early).code memory }
 {
-    if early.is_err() {
-        return 0;
-    }
-    if !has_list(c) {
+    if early.is_err() || !has_list(c) {
         return 0;
     }
     let n = link_count(c);
@@ -266,10 +286,11 @@ pub(crate) fn links_to_read(c: Copied, early: Result<(), Fault>, memory: u64) ->
 }
 
 // What the data of a command is asked without a list that was read: a No Operation has none; a list that was not read lies outside memory.
+#[tactic(auto, unfolding(crate::specs::Coding::verdict_of))]
 fn ask_plain(c: Copied, memory: u64) -> Result<(), Fault>
     ensures { verdict_by result ≡ verdict_of (plain_rows c memory) }
 {
-    if c.byte0 % 16 == 0 {
+    if asks(c, Command::NoOperation) {
         return Ok(());
     }
     if has_list(c) {
@@ -283,11 +304,13 @@ fn ask_plain(c: Copied, memory: u64) -> Result<(), Fault>
 }
 
 // What the ranges of a list that was read are asked, for a transfer of so many sectors.
+#[tactic(auto, unfolding(crate::specs::Coding::list_code))]
 fn ask_list(count: u16, memory: u64, list: &[Link]) -> Result<(), Fault>
     requires { length list.now ≤ most_links }
     ensures { verdict_by result ≡ fixed_as (list_code count memory list.now) 0 }
 {
-    if links::bytes_in(list) != drive::SECTOR_BYTES as u32 * count as u32 {
+    let bytes: u32 = list.iter().map(|x| x.length as u32).sum();
+    if bytes != drive::SECTOR_BYTES as u32 * count as u32 {
         return Err(Fault::ListLength);
     }
     if links::some_odd(list) {

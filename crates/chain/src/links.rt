@@ -1,7 +1,6 @@
-// Link lists: how one is read from memory, and what the rules ask of its ranges together (Link 1 to 8). A list is read into an array of 32
-// elements; its ranges are asked as a slice of those that count.
+// Link lists: how one is read from memory into an array of 32 elements, and what the rules ask of each of its ranges (Link 1 to 8).
 ghost use Rattle.std.specs.Prelude.{◌≡◌, ◌+◌, ◌*◌, ◌≤◌, min, length};
-ghost use Rattle.meaning.specs.Each.{some_of, sum_of};
+ghost use Rattle.meaning.specs.Each.{some_of};
 ghost use Rattle.meaning.specs.Links.{link_bytes, most_links, two_at, four_at, link_at, links_at, no_links, padded, range_of};
 ghost use Rattle.meaning.specs.Code as code;
 
@@ -17,12 +16,7 @@ pub const LINK_BYTES: usize = 8;
 pub fn no_links() -> [Link; 32]
     ensures { result ≡ no_links }
 {
-    let none = Link {
-        address: 0,
-        length: 0,
-        unused: 0,
-    };
-    [none; 32]
+    [Link::default(); 32]
 }
 
 // How many ranges a number can mean: a list holds 32 and no more.
@@ -91,12 +85,4 @@ pub(crate) fn some_outside(list: &[Link], memory: u64) -> bool
     ensures { result ≡ some_of (λ x. code.outside memory (range_of x)) list.now }
 {
     list.iter().any(|x| outside(*x, memory))
-}
-
-// How many bytes these ranges have together.
-pub(crate) fn bytes_in(list: &[Link]) -> u32
-    requires { length list.now ≤ most_links }
-    ensures { result ≡ sum_of (λ x. x.length) list.now }
-{
-    list.iter().map(|x| x.length as u32).sum()
 }

@@ -57,10 +57,7 @@ fn record_of(memory: &[u8], c: Copied, at: u32, d: Drive) -> Record
 fn goes_on(c: Copied) -> bool
     ensures { result ≡ goes_on c }
 {
-    if c.byte0 / 32 % 2 != 1 {
-        return false;
-    }
-    c.next % 2 != 1
+    code::chained(c) && c.next % 2 != 1
 }
 
 // The thirty bytes at a and at b have one in common.
@@ -86,7 +83,7 @@ fn meets_earlier(addresses: &[u32], past: u64, b: u32) -> bool
 fn furthest(past: u64, at: u32) -> u64
     ensures { result ≡ max past (at + iopb_bytes) }
 {
-    ranges::later(past, at as u64 + iopb::IOPB_BYTES as u64)
+    past.max(at as u64 + iopb::IOPB_BYTES as u64)
 }
 
 // From the first IOPB on: each is tested, 5, 3, 4 in turn, and its address is noted, until one ends the chain. The drives have no say in it.
