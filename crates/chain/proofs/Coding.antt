@@ -11,6 +11,8 @@ use mathlib.Core.List.{List, [], ◌∷◌}
 use lib.ListN.{length, take, drop}
 use lib.Dec.{ltb, eqb}
 use borrow.Author.Tests.{eqb-true, eqb-false, eq-eqb, ne_eqb}
+use Rattle.std.specs.Prelude.{Result, Ok, Err}
+use Rattle.std.specs.Result.{is_err}
 use Rattle.meaning.specs.declared.Copied.{Copied}
 use Rattle.meaning.specs.declared.Drive.{Drive}
 use Rattle.meaning.specs.declared.Link.{Link}
@@ -28,7 +30,9 @@ use Rattle.meaning.proofs.Means.{Means, holds, fails, means_lt}
 use Rattle.meaning.proofs.Numbers.{rows_off, off_last, off_last_in}
 use Rattle.meaning.proofs.Links.{few_links, some_links, length_links, links_kept}
 use Rattle.chain.specs.declared.code.Verdict.{Verdict}
-use Rattle.chain.specs.Coding.{to_read, fixed_as, verdict_of, early_rows, plain_rows, list_rows, list_code, late_verdict}
+use Rattle.chain.specs.declared.code.Fault.{Fault}
+use Rattle.chain.specs.declared.code.Fault.TheVariants.{NextAlignment, Unimplemented, NotReady, CountZero, CylinderAbove, HeadAbove, SectorAbove, PastDrive, Protected, ListOutside, ListLength, ListAlignment, RangeOutside, PastMemory}
+use Rattle.chain.specs.Coding.{to_read, fixed_as, fault_fixes, verdict_by, verdict_of, early_rows, plain_rows, list_rows, list_code, late_verdict}
 use Rattle.meaning.specs.Drives.{Drives}
 use Rattle.chain.specs.Records.{record_at, plain_record_of, plain_record_at}
 
@@ -147,12 +151,41 @@ module _ (c : Copied) (early n : ℕ) (none : early ≡ 0) (ys : List Link) wher
   unfolding to_read
   to_read_all g o = rw (none, g, o) refl
 
+-- a fault is never 00, so what comes after it has no say
+pub fault_code : (f : Fault) → eqb (fault_fixes f).code 0 ≡ false
+fault_code NextAlignment = refl
+fault_code Unimplemented = refl
+fault_code NotReady = refl
+fault_code CountZero = refl
+fault_code CylinderAbove = refl
+fault_code HeadAbove = refl
+fault_code SectorAbove = refl
+fault_code (PastDrive fitted) = refl
+fault_code Protected = refl
+fault_code ListOutside = refl
+fault_code ListLength = refl
+fault_code ListAlignment = refl
+fault_code RangeOutside = refl
+fault_code (PastMemory fitted) = refl
+
+pub late_fault : (c : Copied) (f : Fault) (n : ℕ) (ys : List Link) (k : ℕ) → late_verdict c (fault_fixes f) n ys k ≡ fault_fixes f
+unfolding late_verdict
+late_fault c f n ys k = pass _ _ _ (fault_code f)
+
+pub code_given : (r : Result Unit Fault) → is_err r ≡ true → eqb (verdict_by r).code 0 ≡ false
+code_given (Ok x) e = absurd (true≢false (sym e))
+code_given (Err f) e = fault_code f
+
+pub no_code : (r : Result Unit Fault) → is_err r ≡ false → eqb (verdict_by r).code 0 ≡ true
+no_code (Ok x) e = refl
+no_code (Err f) e = absurd (true≢false e)
+
 module _ (c : Copied) (early : Verdict) (n : ℕ) (none : early.code ≡ 0) (ys : List Link) (k : ℕ) where
-  late_plain : k ≡ 0 → late_verdict c early n ys k ≡ verdict_of (plain_rows c n)
+  pub late_plain : k ≡ 0 → late_verdict c early n ys k ≡ verdict_of (plain_rows c n)
   unfolding late_verdict
   late_plain e = rw (none, e) refl
 
-  late_listed : 1 ≤ k → late_verdict c early n ys k ≡ fixed_as (list_code c.count n ys) 0
+  pub late_listed : 1 ≤ k → late_verdict c early n ys k ≡ fixed_as (list_code c.count n ys) 0
   unfolding late_verdict
   late_listed e = rw (none, ne_eqb k 0 (λ z. omega arith)) refl
 

@@ -17,8 +17,7 @@ use Rattle.meaning.specs.Code.{copied_at}
 use Rattle.meaning.specs.Walk.{refused, accepted, record_of, goes_on, shares, follow}
 use Rattle.meaning.proofs.Rows.{pass, stop}
 use Rattle.meaning.proofs.Tests.{some_map}
-use Rattle.chain.specs.declared.walk.Found.{Found}
-use Rattle.chain.specs.Found.{no_addresses, found_of}
+use Rattle.chain.specs.Found.{Finding, no_addresses, found_of}
 use Rattle.chain.specs.Records.{record_at}
 
 pub record Walking (m : List ℕ) (start : ℕ) (addresses : List ℕ) (n at : ℕ) : Type 0 where
@@ -27,7 +26,7 @@ pub record Walking (m : List ℕ) (start : ℕ) (addresses : List ℕ) (n at : �
   pub followed : (d : Drives) → follow 32 m d [] start ≡ follow (32 - n) m d (map (record_at m d) (take n addresses)) at
   pub zeros_left : drop n addresses ≡ drop n no_addresses
 
-abbrev pub ending : ℕ → List ℕ → Found
+abbrev pub ending : ℕ → List ℕ → Finding
 ending n addresses = record { walked = record { number = 0; commands = n }; addresses = addresses }
 
 -- a record made of an IOPB says where that is

@@ -9,6 +9,8 @@ use lib.ListN.{length, take, drop}
 use lib.Dec.{ltb}
 use lib.Seq.{take-append_seam}
 use borrow.Author.Tests.{lt-ltb, le-ltb}
+use Rattle.std.specs.Prelude.{Ok, Err}
+use Rattle.meaning.specs.declared.refusals.Refusal.{Refusal}
 use Rattle.meaning.specs.Drives.{Drives}
 use Rattle.meaning.specs.declared.Record.{Record}
 use Rattle.meaning.specs.Each.{some_of}
@@ -22,8 +24,9 @@ use Rattle.meaning.proofs.Rows.{or_first, or_later, pass, stop}
 use Rattle.meaning.proofs.Means.{Means, holds, fails, means_lt}
 use Rattle.meaning.proofs.Walks.{chain_most}
 use Rattle.chain.specs.declared.walk.Found.{Found}
-use Rattle.chain.specs.Found.{chain_for, no_addresses, found_of}
+use Rattle.chain.specs.Found.{Finding, chain_for, no_addresses, walked_of, found_of, finding_of}
 use Rattle.chain.specs.Records.{record_at, filled_at}
+use Rattle.chain.proofs.Over.{filled_few}
 
 -- ---- the number, before the chain is followed
 
@@ -119,13 +122,26 @@ module _ (d : Drives) (start : ℕ) (m : List ℕ) (is : List (List ℕ)) (t : L
       ap (λ (rs' : List Record). take (length rs) rs' ++ drop (length rs) t) (map-append (record_at m d) places rest ∙ ap (◌++ map (record_at m d) rest) h)
       ∙ ap (◌++ drop (length rs) t) (take-append_seam rs (map (record_at m d) rest))
 
-  abbrev Whole : Found → Type 0
+  abbrev Whole : Finding → Type 0
   Whole f =
       ((f.walked.commands ≤ length t) × (f.walked.commands ≤ most_commands))
       × WalkGives d start (state_of m is t) f.walked (filled_at m d f.walked.commands f.addresses t)
 
-  pub found_whole : (records : ℕ) → length t ≡ records → (f : Found) → f ≡ found_of (chain_for d start records m is) → Whole f
+  pub found_whole : (f : Finding) → f ≡ found_of c → Whole f
   unfolding WalkGives walk_reply walk_leaves
-  found_whole records long f e =
-      subst Whole (ap (λ (n : ℕ). found_of (chain_for d start n m is)) long ∙ sym e)
+  found_whole f e =
+      subst Whole (sym e)
       (few c refl, (ap answered (sym same), lays c made ∙ ap (λ (x : Chain). filled x t) (sym same)))
+
+  -- a refusal leaves the table alone
+  pub refused_whole : (r : Refusal) → finding_of (Err r) ≡ found_of c → WalkGives d start (state_of m is t) (walked_of (Err r)) t
+  refused_whole r e = (found_whole (finding_of (Err r)) e).1
+
+  -- and with the records of the commands that are found the walk is whole
+  module _ (f : Found) (e : finding_of (Ok f) ≡ found_of c) (long : length f.addresses ≡ most_commands) where
+    pub few_enough : (f.commands ≤ length t) × (f.commands ≤ length f.addresses)
+    few_enough = let h = (found_whole (finding_of (Ok f)) e).0 in (h.0, omega (arith, h.1, long))
+
+    pub accepted_whole : WalkGives d start (state_of m is t) (walked_of (Ok f.commands)) (filled_at m d (length (take f.commands f.addresses)) (take f.commands f.addresses) t)
+    accepted_whole =
+        subst (WalkGives d start (state_of m is t) (walked_of (Ok f.commands))) (sym (filled_few m d f.addresses t f.commands few_enough.1)) (found_whole (finding_of (Ok f)) e).1

@@ -1,11 +1,12 @@
 -- Records that are laid one by one over those of a table: after k of them it is the first k of the one over the rest of the other.
 use mathlib.Core.Path.{◌≡◌, refl, ap}
 use Prim.Native.Nat.{ℕ, zero, suc, ◌+◌, ◌≤◌, ◌<◌}
-use native.Mathlib.Nat.{not-suc-le-zero, le_of_suc-le-suc}
+use native.Mathlib.Nat.{le_refl, not-suc-le-zero, le_of_suc-le-suc}
 use native.Mathlib.Omega.{arith}
 use native.Mathlib.Numerals.{add-one}
 use mathlib.Core.List.{List, [], ◌∷◌, map}
-use lib.ListN.{length, set, get_or, length-append, length-take, length-drop, length-map, get_or-map}
+use lib.ListN.{length, take, set, get_or, length-append, length-take, length-drop, length-map, get_or-map}
+use Rattle.std.proofs.lemmas.List.{length-take-le, take-map, take-take}
 use Rattle.meaning.specs.Drives.{Drives}
 use Rattle.meaning.specs.declared.Record.{Record}
 use Rattle.chain.specs.Records.{over, record_at, filled_at}
@@ -33,3 +34,7 @@ module _ (m : List ℕ) (d : Drives) (addresses : List ℕ) (t : List Record) wh
   pub filled_next : (k : ℕ) → k < length addresses → k < length t → set (filled_at m d k addresses t) k (record_at m d (get_or addresses k 0)) ≡ filled_at m d (k + 1) addresses t
   filled_next k h g =
       rw (← get_or-map (record_at m d) addresses k 0) (over_next (record_at m d 0) k (map (record_at m d) addresses) t (omega (arith, long)) g)
+
+  -- those of the first k addresses, by these addresses alone
+  pub filled_few : (k : ℕ) → k ≤ length addresses → filled_at m d (length (take k addresses)) (take k addresses) t ≡ filled_at m d k addresses t
+  filled_few k h = simp (length-take-le k addresses h, take-map, take-take k k addresses (le_refl k))

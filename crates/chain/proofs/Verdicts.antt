@@ -9,7 +9,7 @@ use Rattle.meaning.specs.First.{Row, ◌↝◌, ◌telling◌}
 use Rattle.meaning.specs.Ends.{as_byte}
 use Rattle.meaning.proofs.All.{All}
 use Rattle.meaning.proofs.Numbers.{Off}
-use Rattle.chain.specs.Coding.{fixed_as, ended_as, verdict_of}
+use Rattle.chain.specs.Coding.{fixed_as, verdict_of}
 
 module _ (r : Row) (rows : List Row) where
   pub passed : r.applies ≡ false → verdict_of (r ∷ rows) ≡ verdict_of rows
@@ -30,9 +30,10 @@ pub passed_to : (rows : List Row) (j : ℕ) → All Off (take j rows) → verdic
 passed_to rows j h = subst (λ (all : List Row). verdict_of all ≡ verdict_of (drop j rows)) (take-append-drop j rows) (all_passed (take j rows) (drop j rows) h)
 
 -- the row of an end decides where its test, as a function answers it, says that the end is passed
-pub passed_end : (code : ℕ) (end answer : End) (rows : List Row) → answer ≡ end → answer.past ≡ true
-    → ended_as code answer ≡ verdict_of (end.past ↝ code telling as_byte end.fitted ∷ rows)
-passed_end code end answer rows is past = ap (ended_as code) is ∙ sym (stopped _ rows (ap (λ (e : End). e.past) (sym is) ∙ past))
+pub passed_end : (code : ℕ) (end answer : End) (told : ℕ) (rows : List Row) → told ≡ as_byte answer.fitted → answer ≡ end → answer.past ≡ true
+    → fixed_as code told ≡ verdict_of (end.past ↝ code telling as_byte end.fitted ∷ rows)
+passed_end code end answer told rows e is past =
+    ap (fixed_as code) (e ∙ ap (λ (x : End). as_byte x.fitted) is) ∙ sym (stopped _ rows (ap (λ (x : End). x.past) (sym is) ∙ past))
 
 -- no row is left
 pub none_left : verdict_of [] ≡ fixed_as 0 0

@@ -1,30 +1,57 @@
 -- What is fixed of a command, its code and how many sectors would have fitted, as the code works it out: by the rows that do not look at its
 -- data, then by its data, with a list or without one. proofs/Coding proves that this is what the rules fix. n is the length of memory.
-use Rattle.std.specs.Prelude.{ℕ, ◌*◌, not, ◌&&◌, cond, List, [], ◌∷◌, ◌++◌, eqb}
+use Rattle.std.specs.Prelude.{ℕ, ◌*◌, not, ◌&&◌, cond, Result, Ok, Err, List, [], ◌∷◌, ◌++◌, eqb}
 use Rattle.meaning.specs.declared.Copied.{Copied}
 use Rattle.meaning.specs.declared.Link.{Link}
 use Rattle.meaning.specs.declared.Drive.{Drive}
-use Rattle.meaning.specs.declared.End.{End}
 use Rattle.meaning.specs.First.{Row, first_of, told_of, ◌↝◌, ◌telling◌}
 use Rattle.meaning.specs.Each.{some_of, sum_of}
 use Rattle.meaning.specs.Sectors.{sector_bytes}
 use Rattle.meaning.specs.Ranges.{bytes}
 use Rattle.meaning.specs.Links.{range_of}
 use Rattle.meaning.specs.Ends.{memory_end, as_byte}
-use Rattle.meaning.specs.Code.{nop, command_in, gathers, odd, link_count, list_outside, outside, command_rows, transfer_rows}
+use Rattle.meaning.specs.Code.{nop, write, read, command_in, gathers, odd, link_count, list_outside, outside, command_rows, transfer_rows}
 use Rattle.chain.specs.declared.code.Verdict.{Verdict}
+use Rattle.chain.specs.declared.code.Command.{Command}
+use Rattle.chain.specs.declared.code.Command.TheVariants.{NoOperation, WriteData, ReadData}
+use Rattle.chain.specs.declared.code.Fault.{Fault}
+use Rattle.chain.specs.declared.code.Fault.TheVariants.{NextAlignment, Unimplemented, NotReady, CountZero, CylinderAbove, HeadAbove, SectorAbove, PastDrive, Protected, ListOutside, ListLength, ListAlignment, RangeOutside, PastMemory}
 
 -- how many elements of a list the walk reads
 unfoldable pub to_read : Copied → ℕ → ℕ → ℕ
 to_read c early n = cond (eqb early 0 && gathers c) (cond (list_outside c n) 0 (link_count c)) 0
 
+-- the number of a command, in bits 3-0 of byte 0
+abbrev pub command_number : Command → ℕ
+command_number NoOperation = nop
+command_number WriteData = write
+command_number ReadData = read
+
 -- a code, and what is told beside it
 abbrev pub fixed_as : ℕ → ℕ → Verdict
 fixed_as code fitted = record { code = code; fitted = fitted }
 
--- the code of an end that is passed, and what its test tells
-abbrev pub ended_as : ℕ → End → Verdict
-ended_as code end = fixed_as code (as_byte end.fitted)
+-- what is fixed of a command at fault
+abbrev pub fault_fixes : Fault → Verdict
+fault_fixes NextAlignment = fixed_as 0x1E 0
+fault_fixes Unimplemented = fixed_as 0x14 0
+fault_fixes NotReady = fixed_as 0x42 0
+fault_fixes CountZero = fixed_as 0x13 0
+fault_fixes CylinderAbove = fixed_as 0x10 0
+fault_fixes HeadAbove = fixed_as 0x11 0
+fault_fixes SectorAbove = fixed_as 0x12 0
+fault_fixes (PastDrive fitted) = fixed_as 0x10 fitted
+fault_fixes Protected = fixed_as 0x90 0
+fault_fixes ListOutside = fixed_as 0x4B 0
+fault_fixes ListLength = fixed_as 0x1C 0
+fault_fixes ListAlignment = fixed_as 0x1F 0
+fault_fixes RangeOutside = fixed_as 0x4B 0
+fault_fixes (PastMemory fitted) = fixed_as 0x4B fitted
+
+-- and of one that was asked
+abbrev pub verdict_by : {A : Type 0} → Result A Fault → Verdict
+verdict_by (Ok x) = fixed_as 0x00 0
+verdict_by (Err f) = fault_fixes f
 
 -- what the first row fixes that applies; 00 and nothing where none does
 unfoldable pub verdict_of : List Row → Verdict

@@ -1,15 +1,69 @@
 // What the walk copies from an IOPB, and what it fixes of its command: the code that it will get, and how many sectors would have fitted.
 // First comes what every command is asked, then what only a transfer is asked, then what its data is asked; the first row that applies
 // decides. The drive is always that of the command's own unit.
-ghost use Rattle.std.specs.Prelude.{◌≡◌, ◌*◌, not, ◌&&◌, ◌||◌, ltb, eqb, take};
+ghost use Rattle.std.specs.Prelude.{◌≡◌, ◌*◌, not, ◌&&◌, ◌||◌, ◌≤◌, length, ltb, eqb};
 ghost use Rattle.meaning.specs.Sectors.{sector_bytes, maximum_on};
 ghost use Rattle.meaning.specs.Ranges.{bytes};
+ghost use Rattle.meaning.specs.Links.{most_links};
 ghost use Rattle.meaning.specs.Ends.{drive_end, memory_end};
 ghost use Rattle.meaning.specs.Code.{copied_at, link_count, transfer_rows, chained, odd, gathers, command_in, nop, read, write, first_sector};
-ghost use Rattle.chain.specs.Coding.{to_read, fixed_as, ended_as, verdict_of, early_rows, plain_rows, list_code, late_verdict};
+ghost use Rattle.chain.specs.Coding.{command_number, to_read, fixed_as, fault_fixes, verdict_by, verdict_of, early_rows, plain_rows, list_code, late_verdict};
 
 use crate::links;
 use meaning::{Copied, Drive, End, Link};
+
+// The commands that the board knows.
+#[derive(Clone, Copy, Debug, PartialEq, Eq)]
+pub enum Command {
+    NoOperation,
+    WriteData,
+    ReadData,
+}
+
+impl From<Command> for u8 {
+    ghost from_gives = { λ c n. n ≡ command_number c };
+
+    // as bits 3-0 of byte 0 ask for it
+    fn from(command: Command) -> u8 {
+        match command {
+            Command::NoOperation => 0,
+            Command::WriteData => 1,
+            Command::ReadData => 2,
+        }
+    }
+}
+
+// A row of the rules that applies to a command, which then fails: each gives its code (Code 1 to 16), and two tell how many sectors would
+// have fitted (Code 18).
+#[derive(Clone, Copy, Debug, PartialEq, Eq)]
+pub enum Fault {
+    // 1EH: chained, and the next address is odd
+    NextAlignment,
+    // 14H: no such command, or not with this SGM or byte 4
+    Unimplemented,
+    // 42H: the unit is absent
+    NotReady,
+    // 13H
+    CountZero,
+    // 10H, 11H and 12H: above its maximum
+    CylinderAbove,
+    HeadAbove,
+    SectorAbove,
+    // 10H: sectors past the end of the drive, where so many would have fitted
+    PastDrive(u8),
+    // 90H: a Write Data on a protected drive
+    Protected,
+    // 4BH: the link list is not all in memory
+    ListOutside,
+    // 1CH: the ranges of the list have not the bytes of the sectors
+    ListLength,
+    // 1FH: a range of the list begins at an odd address
+    ListAlignment,
+    // 4BH: a range of the list ends past the end of memory
+    RangeOutside,
+    // 4BH: data without a list past the end of memory, where so many sectors would have fitted
+    PastMemory(u8),
+}
 
 // What the walk fixes of a command: its code, and how many sectors would have fitted.
 #[derive(Clone, Copy)]
@@ -25,11 +79,39 @@ fn fixed(code: u8, fitted: u8) -> Verdict
     Verdict { code, fitted }
 }
 
-// The code of an end that is passed, and what its test tells.
-fn ended(code: u8, end: End) -> Verdict
-    ensures { result ≡ ended_as code end }
-{
-    fixed(code, ends::as_byte(end.fitted))
+impl From<Fault> for Verdict {
+    ghost from_gives = { λ f v. v ≡ fault_fixes f };
+
+    fn from(fault: Fault) -> Verdict {
+        match fault {
+            Fault::NextAlignment => fixed(0x1E, 0),
+            Fault::Unimplemented => fixed(0x14, 0),
+            Fault::NotReady => fixed(0x42, 0),
+            Fault::CountZero => fixed(0x13, 0),
+            Fault::CylinderAbove => fixed(0x10, 0),
+            Fault::HeadAbove => fixed(0x11, 0),
+            Fault::SectorAbove => fixed(0x12, 0),
+            Fault::PastDrive(fitted) => fixed(0x10, fitted),
+            Fault::Protected => fixed(0x90, 0),
+            Fault::ListOutside => fixed(0x4B, 0),
+            Fault::ListLength => fixed(0x1C, 0),
+            Fault::ListAlignment => fixed(0x1F, 0),
+            Fault::RangeOutside => fixed(0x4B, 0),
+            Fault::PastMemory(fitted) => fixed(0x4B, fitted),
+        }
+    }
+}
+
+// A command that no row finds at fault has code 00.
+impl From<Result<(), Fault>> for Verdict {
+    ghost from_gives = { λ r v. v ≡ verdict_by r };
+
+    fn from(asked: Result<(), Fault>) -> Verdict {
+        match asked {
+            Ok(()) => fixed(0x00, 0),
+            Err(fault) => Verdict::from(fault),
+        }
+    }
 }
 
 // The fields of an IOPB that the walk keeps.
@@ -63,14 +145,18 @@ pub fn copied(memory: &[u8], at: u32) -> Copied
     fields_of(&memory[from..to], 0)
 }
 
+// CHEN set: another command follows, if the next address is even.
+pub(crate) fn chained(c: Copied) -> bool
+    ensures { result ≡ chained c }
+{
+    c.byte0 / 32 % 2 == 1
+}
+
 // CHEN set and the next address odd.
 pub(crate) fn misaligned(c: Copied) -> bool
     ensures { result ≡ (chained c && odd c.next) }
 {
-    if c.byte0 / 32 % 2 != 1 {
-        return false;
-    }
-    c.next % 2 == 1
+    chained(c) && c.next % 2 == 1
 }
 
 // SGM set: a transfer has a link list.
@@ -80,17 +166,20 @@ pub(crate) fn has_list(c: Copied) -> bool
     c.byte0 / 16 % 2 == 1
 }
 
-// A command above 2, or SGM with No Operation, or byte 4 not zero.
+// Byte 0 asks for this command.
+fn asks(c: Copied, command: Command) -> bool
+    ensures { result ≡ eqb (command_in c.byte0) (command_number command) }
+{
+    c.byte0 % 16 == u8::from(command)
+}
+
+// A command above the last one, or SGM with No Operation, or byte 4 not zero.
 fn unimplemented(c: Copied) -> bool
     ensures { result ≡ (ltb read (command_in c.byte0) || gathers c && eqb (command_in c.byte0) nop || not (eqb c.subfunction 0)) }
 {
-    if 2 < c.byte0 % 16 {
-        return true;
-    }
-    if has_list(c) & (c.byte0 % 16 == 0) {
-        return true;
-    }
-    c.subfunction != 0
+    u8::from(Command::ReadData) < c.byte0 % 16
+        || has_list(c) && asks(c, Command::NoOperation)
+        || c.subfunction != 0
 }
 
 // The number of the command's first sector.
@@ -107,19 +196,11 @@ fn sector_above(c: Copied, d: Drive) -> bool
     drive::above(drive::maximum_on(d, c.head), c.sector as u32)
 }
 
-// The test for the end of the drive: of the command's sectors, where `first` is the number of the first of them.
-fn drive_end(c: Copied, d: Drive, first: u32) -> End
-    requires { first ≡ first_sector d c }
-    ensures { result ≡ drive_end d (first_sector d c) c.count }
-{
-    ends::drive_end(d, first, c.count)
-}
-
 // Write Data and the drive is protected.
 fn forbidden(c: Copied, d: Drive) -> bool
     ensures { result ≡ (eqb (command_in c.byte0) write && d.protected) }
 {
-    (c.byte0 % 16 == 1) & d.protected
+    asks(c, Command::WriteData) && d.protected
 }
 
 // The test for the end of memory: of the 512 x count bytes from the data address on.
@@ -130,52 +211,54 @@ fn memory_end(c: Copied, memory: u64) -> End
     ends::memory_end(memory, c.address, many)
 }
 
-// What is fixed of a transfer, before its data is looked at. `first` is the number of its first sector.
-fn transfer_verdict(c: Copied, d: Drive, first: u32) -> Verdict
+// What is asked of a transfer, before its data is looked at. `first` is the number of its first sector.
+#[tactic(auto, unfolding(crate::specs::Coding::verdict_of))]
+fn ask_transfer(c: Copied, d: Drive, first: u32) -> Result<(), Fault>
     requires { first ≡ first_sector d c }
-    ensures { result ≡ verdict_of (transfer_rows c d) }
+    ensures { verdict_by result ≡ verdict_of (transfer_rows c d) }
 {
     if !d.present {
-        return fixed(0x42, 0);
+        return Err(Fault::NotReady);
     }
     if c.count == 0 {
-        return fixed(0x13, 0);
+        return Err(Fault::CountZero);
     }
     if d.cylinder < c.cylinder {
-        return fixed(0x10, 0);
+        return Err(Fault::CylinderAbove);
     }
     if d.head < c.head {
-        return fixed(0x11, 0);
+        return Err(Fault::HeadAbove);
     }
     if sector_above(c, d) {
-        return fixed(0x12, 0);
+        return Err(Fault::SectorAbove);
     }
-    let end = drive_end(c, d, first);
+    let end = ends::drive_end(d, first, c.count);
     if end.past {
-        return ended(0x10, end);
+        return Err(Fault::PastDrive(ends::as_byte(end.fitted)));
     }
     if forbidden(c, d) {
-        return fixed(0x90, 0);
+        return Err(Fault::Protected);
     }
-    fixed(0x00, 0)
+    Ok(())
 }
 
-// What is fixed of a command by the rows that do not look at its data: what every command is asked, and then what a transfer is asked.
+// What is asked of a command by the rows that do not look at its data: what every command is asked, and then what a transfer is asked.
 // `first` is the number of its first sector.
-pub(crate) fn early_verdict(c: Copied, d: Drive, first: u32) -> Verdict
+#[tactic(auto, unfolding(crate::specs::Coding::verdict_of))]
+pub(crate) fn ask_early(c: Copied, d: Drive, first: u32) -> Result<(), Fault>
     requires { first ≡ first_sector d c }
-    ensures { result ≡ verdict_of (early_rows c d) }
+    ensures { verdict_by result ≡ verdict_of (early_rows c d) }
 {
     if misaligned(c) {
-        return fixed(0x1E, 0);
+        return Err(Fault::NextAlignment);
     }
     if unimplemented(c) {
-        return fixed(0x14, 0);
+        return Err(Fault::Unimplemented);
     }
-    if c.byte0 % 16 == 0 {
-        return fixed(0x00, 0);
+    if asks(c, Command::NoOperation) {
+        return Ok(());
     }
-    transfer_verdict(c, d, first)
+    ask_transfer(c, d, first)
 }
 
 // How many elements the link list has: bits 7-3 of byte 6, where 0 means 32.
@@ -186,15 +269,13 @@ fn link_count(c: Copied) -> u16
     if n == 0 { links::MOST_LINKS } else { n as u16 }
 }
 
-// How many elements the walk reads of a command with this code so far: none where it has a code already, or no list, or one that is not
-// all in a memory of so many bytes.
-pub(crate) fn links_to_read(c: Copied, early: u8, memory: u64) -> u16
-    ensures { result ≡ to_read c early memory }
+// How many elements the walk reads of a command that was asked so far: none where it is at fault, or has no list, or one that is not all in a
+// memory of so many bytes.
+#[tactic(auto, unfolding(crate::specs::Coding::to_read))]
+pub(crate) fn links_to_read(c: Copied, early: Result<(), Fault>, memory: u64) -> u16
+    ensures { result ≡ to_read c (verdict_by early).code memory }
 {
-    if early != 0 {
-        return 0;
-    }
-    if !has_list(c) {
+    if early.is_err() || !has_list(c) {
         return 0;
     }
     let n = link_count(c);
@@ -204,56 +285,56 @@ pub(crate) fn links_to_read(c: Copied, early: u8, memory: u64) -> u16
     n
 }
 
-// What is fixed of a command without a list that was read, by its data: a No Operation has none; a list that was not read lies outside
-// memory, and nothing is told of it.
-fn plain_verdict(c: Copied, memory: u64) -> Verdict
-    ensures { result ≡ verdict_of (plain_rows c memory) }
+// What the data of a command is asked without a list that was read: a No Operation has none; a list that was not read lies outside memory.
+#[tactic(auto, unfolding(crate::specs::Coding::verdict_of))]
+fn ask_plain(c: Copied, memory: u64) -> Result<(), Fault>
+    ensures { verdict_by result ≡ verdict_of (plain_rows c memory) }
 {
-    if c.byte0 % 16 == 0 {
-        return fixed(0x00, 0);
+    if asks(c, Command::NoOperation) {
+        return Ok(());
     }
     if has_list(c) {
-        return fixed(0x4B, 0);
+        return Err(Fault::ListOutside);
     }
     let end = memory_end(c, memory);
     if end.past {
-        return ended(0x4B, end);
+        return Err(Fault::PastMemory(ends::as_byte(end.fitted)));
     }
-    fixed(0x00, 0)
+    Ok(())
 }
 
-// The code of a transfer by the first n ranges of its list, which was read.
-fn list_code(count: u16, memory: u64, list: [Link; 32], n: u16) -> u8
-    ensures { result ≡ list_code count memory (take n list) }
+// What the ranges of a list that was read are asked, for a transfer of so many sectors.
+#[tactic(auto, unfolding(crate::specs::Coding::list_code))]
+fn ask_list(count: u16, memory: u64, list: &[Link]) -> Result<(), Fault>
+    requires { length list.now ≤ most_links }
+    ensures { verdict_by result ≡ fixed_as (list_code count memory list.now) 0 }
 {
-    if links::bytes_in(list, n) != drive::SECTOR_BYTES as u32 * count as u32 {
-        return 0x1C;
+    let bytes: u32 = list.iter().map(|x| x.length as u32).sum();
+    if bytes != drive::SECTOR_BYTES as u32 * count as u32 {
+        return Err(Fault::ListLength);
     }
-    if links::some_odd(list, n) {
-        return 0x1F;
+    if links::some_odd(list) {
+        return Err(Fault::ListAlignment);
     }
-    if links::some_outside(list, n, memory) {
-        return 0x4B;
+    if links::some_outside(list, memory) {
+        return Err(Fault::RangeOutside);
     }
-    0x00
+    Ok(())
 }
 
-// What is fixed of a command: what came early, and then what its data is asked. The first n elements of the list are those that the walk
-// read; of a command with a list nothing is told here. memory is its length.
-pub(crate) fn final_verdict(
+// What a command is asked: what it was asked early, and then what its data is. The list is what the walk read of it, and memory is its length.
+pub(crate) fn ask_all(
     c: Copied,
-    early: Verdict,
+    early: Result<(), Fault>,
     memory: u64,
-    list: [Link; 32],
-    n: u16,
-) -> Verdict
-    ensures { result ≡ late_verdict c early memory (take n list) n }
+    list: &[Link],
+) -> Result<(), Fault>
+    requires { length list.now ≤ most_links }
+    ensures { verdict_by result ≡ late_verdict c (verdict_by early) memory list.now (length list.now) }
 {
-    if early.code != 0 {
-        return early;
+    early?;
+    if list.is_empty() {
+        return ask_plain(c, memory);
     }
-    if n == 0 {
-        return plain_verdict(c, memory);
-    }
-    fixed(list_code(c.count, memory, list, n), 0)
+    ask_list(c.count, memory, list)
 }

@@ -2,25 +2,11 @@
 ghost use Rattle.std.specs.Prelude.{◌≡◌, max, min, ltb};
 ghost use Rattle.meaning.specs.Ranges as ranges;
 
-// The later of two places.
-pub fn later(a: u64, b: u64) -> u64
-    ensures { result ≡ max a b }
-{
-    if a < b { b } else { a }
-}
-
-// The earlier of two places.
-pub fn earlier(a: u64, b: u64) -> u64
-    ensures { result ≡ min a b }
-{
-    if a < b { a } else { b }
-}
-
 // The numbers from `from` up to, not including, `to`, and those from `start` up to, not including, `end`, have one in common.
 pub fn common(from: u64, to: u64, start: u64, end: u64) -> bool
     ensures { result ≡ ltb (max from start) (min to end) }
 {
-    later(from, start) < earlier(to, end)
+    from.max(start) < to.min(end)
 }
 
 // n numbers from a on and m numbers from b on have one in common.

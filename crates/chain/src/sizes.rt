@@ -12,11 +12,9 @@ pub const MEMORY_LIMIT: usize = 65_536;
 
 // Memory is over its limit, or some unit that is there has an image over its limit or not of its drive's size, or a drive that cannot be. A
 // table by value is never too short.
+#[tactic(auto, unfolding(meaning::specs::Sizes::store_wrong))]
 pub fn sizes_wrong(memory: &[u8], disks: LentDisks<'_>) -> bool
     ensures { result ≡ store_wrong (drives_of disks.entry.drives) (lent memory.now (images_of disks.entry)) }
 {
-    if MEMORY_LIMIT < memory.len() {
-        return true;
-    }
-    units::images_wrong(disks)
+    MEMORY_LIMIT < memory.len() || units::images_wrong(disks)
 }

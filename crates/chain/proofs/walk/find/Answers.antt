@@ -11,17 +11,17 @@ use Rattle.chain.proofs.walk.find.Goals as goal
 pub returns-then-records-lt-MOST_COMMANDS : goal.returns-then-records-lt-MOST_COMMANDS
 returns-then-records-lt-MOST_COMMANDS c =
     let a = c.args in
-    c.nothing_found.ensures ∙ ap found_of (sym (for_short (drives_of a.disks.drives) a.start a.records a.memory.now (images_of a.disks) (omega (arith, c.if-records-lt-MOST_COMMANDS.true))))
+    ap found_of (sym (for_short (drives_of a.disks.drives) a.start a.records a.memory.now (images_of a.disks) (omega (arith, c.if-records-lt-MOST_COMMANDS.true))))
 
 pub returns-then-sizes_wrong : goal.returns-then-sizes_wrong
 returns-then-sizes_wrong c =
     let a = c.args in
-    c.nothing_found-then-sizes_wrong.ensures ∙ ap found_of (sym (for_wrong (drives_of a.disks.drives) a.start a.records a.memory.now (images_of a.disks) (sym c.sizes_wrong.ensures ∙ c.if-sizes_wrong.true)))
+    ap found_of (sym (for_wrong (drives_of a.disks.drives) a.start a.records a.memory.now (images_of a.disks) (sym c.sizes_wrong.ensures ∙ c.if-sizes_wrong.true)))
 
 pub returns-then-start-eq1 : goal.returns-then-start-eq1
 returns-then-start-eq1 c =
     let a = c.args in
-    c.nothing_found-then-start-eq1.ensures ∙ ap found_of (sym (for_odd (drives_of a.disks.drives) a.start a.records a.memory.now (images_of a.disks) c.if-records-lt-MOST_COMMANDS.false
+    ap found_of (sym (for_odd (drives_of a.disks.drives) a.start a.records a.memory.now (images_of a.disks) c.if-records-lt-MOST_COMMANDS.false
     (sym c.sizes_wrong.ensures ∙ c.if-sizes_wrong.false) (eq-eqb _ _ c.if-start-eq1.true)))
 
 pub returns : goal.returns

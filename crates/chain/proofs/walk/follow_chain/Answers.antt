@@ -15,7 +15,7 @@ loop-n-init c = (record { most = search rules; long = refl; followed = λ d. ref
 pub returns-then-not-all_in : goal.returns-then-not-all_in
 returns-then-not-all_in c d = let a = c.args in
     let l = c.loop-n in
-    c.nothing_found.ensures ∙ ap found_of (sym (not_in_memory a.memory.now a.start l.addresses l.n l.at l.invariant.0 d c.loop-n-test.true (sym c.all_in.ensures ∙ c.if-not-all_in.true)))
+    ap found_of (sym (not_in_memory a.memory.now a.start l.addresses l.n l.at l.invariant.0 d c.loop-n-test.true (sym c.all_in.ensures ∙ c.if-not-all_in.true)))
 
 pub slice_bounds-meets_earlier-end : goal.slice_bounds-meets_earlier-end
 slice_bounds-meets_earlier-end c = let l = c.loop-n in
@@ -27,7 +27,7 @@ meets_earlier-requires c = c.loop-n.invariant.1
 pub returns-then-meets_earlier : goal.returns-then-meets_earlier
 returns-then-meets_earlier c d = let a = c.args in
     let l = c.loop-n in
-    c.nothing_found-then-meets_earlier.ensures ∙ ap found_of (sym (shares_a_byte a.memory.now a.start l.addresses l.n l.at l.invariant.0 d c.loop-n-test.true (sym c.all_in.ensures ∙ c.if-not-all_in.false) (sym c.meets_earlier.ensures ∙ c.if-meets_earlier.true)))
+    ap found_of (sym (shares_a_byte a.memory.now a.start l.addresses l.n l.at l.invariant.0 d c.loop-n-test.true (sym c.all_in.ensures ∙ c.if-not-all_in.false) (sym c.meets_earlier.ensures ∙ c.if-meets_earlier.true)))
 
 pub returns-then-not-goes_on : goal.returns-then-not-goes_on
 returns-then-not-goes_on c d = let a = c.args in
@@ -47,4 +47,4 @@ loop-n-preserved c = let a = c.args in
 pub returns : goal.returns
 returns c d = let a = c.args in
     let l = c.loop-n in
-    c.nothing_found-2.ensures ∙ ap found_of (sym (too_many a.memory.now a.start l.addresses l.n l.at l.invariant.0 d c.loop-n-test.false))
+    ap found_of (sym (too_many a.memory.now a.start l.addresses l.n l.at l.invariant.0 d c.loop-n-test.false))
