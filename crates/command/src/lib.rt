@@ -3,41 +3,61 @@
 #![tactic(auto)]
 
 pub mod closing;
+mod hulled;
 pub mod sound;
 pub mod touch;
 
-ghost use Rattle.std.specs.Prelude.{◌≡◌, ◌+◌, ◌*◌};
-ghost use Rattle.meaning.specs.Code.{command_in};
+ghost use Rattle.std.specs.Prelude.{◌≡◌};
 ghost use Rattle.meaning.specs.Command as command;
+ghost use Rattle.command.specs.Kinds.{kind_of};
 
 use meaning::Record;
 
-// The code and the command as one number, which is the command's own exactly where the code is 00: one test of it decides both.
-fn kind(r: Record) -> u32
-    ensures { result ≡ 256 * r.code + command_in r.byte0 }
-{
-    256 * r.code as u32 + (r.byte0 % 16) as u32
+// The commands that move sectors, as byte 0 of an IOPB has them.
+const WRITE: u8 = 1;
+
+const READ: u8 = 2;
+
+// What a command moves: a transfer with code 00 reads sectors, or writes them.
+#[derive(Clone, Copy, PartialEq, Eq)]
+enum Kind {
+    Reads,
+    Writes,
+    MovesNothing,
+}
+
+impl Kind {
+    // By the code and the copied byte 0 of a record.
+    fn of(r: Record) -> Kind
+        ensures { result ≡ kind_of r }
+    {
+        match (r.code, r.byte0 % 16) {
+            (0, READ) => Kind::Reads,
+            (0, WRITE) => Kind::Writes,
+            _ => Kind::MovesNothing,
+        }
+    }
 }
 
 // A Read Data with code 00.
 pub fn reads(r: Record) -> bool
     ensures { result ≡ command.reads r }
 {
-    kind(r) == 2
+    Kind::of(r) == Kind::Reads
 }
 
 // A Write Data with code 00.
 pub fn writes(r: Record) -> bool
     ensures { result ≡ command.writes r }
 {
-    kind(r) == 1
+    Kind::of(r) == Kind::Writes
 }
 
 // A transfer with code 00.
 pub fn transfers(r: Record) -> bool
     ensures { result ≡ command.transfers r }
 {
-    reads(r) | writes(r)
+    Kind::of(r) != Kind::MovesNothing
 }
 
 // How many steps a command has: a transfer with code 00 its count, every other one.
