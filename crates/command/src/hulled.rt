@@ -1,9 +1,9 @@
 // A record with the hull of its data, which is worked out once: a list is gone through once for all that is asked of it.
 ghost use Rattle.std.specs.Prelude.{◌≡◌};
-ghost use Rattle.command.specs.Footprints.{data_hull};
+ghost use Rattle.command.specs.Footprints.{data_hull, footprint_of};
 
 use crate::touch;
-use crate::touch::Hull;
+use crate::touch::{Footprint, Hull};
 use meaning::Record;
 
 #[derive(Clone, Copy)]
@@ -21,6 +21,24 @@ impl<'a> Hulled<'a> {
         Hulled {
             r,
             hull: touch::data_hull(r),
+        }
+    }
+
+    // The footprint of its command.
+    #[tactic(auto, unfolding(crate::specs::Footprints::footprint_of))]
+    pub(crate) fn footprint(&self) -> Footprint
+        ensures { result ≡ footprint_of self.now.r.now }
+    {
+        let r = self.r;
+        Footprint {
+            hull: self.hull,
+            status: r.iopb,
+            sector: r.sector,
+            sectors: touch::moved(r),
+            steps: crate::steps_of(*r),
+            unit: r.unit,
+            reads: crate::reads(*r),
+            writes: crate::writes(*r),
         }
     }
 }

@@ -61,6 +61,7 @@ pub fn transfers(r: Record) -> bool
 }
 
 // How many steps a command has: a transfer with code 00 its count, every other one.
+#[tactic(auto, unfolding(meaning::specs::Command::steps_of))]
 pub fn steps_of(r: Record) -> u32
     ensures { result ≡ command.steps_of r }
 {
@@ -68,6 +69,7 @@ pub fn steps_of(r: Record) -> u32
 }
 
 // No step of the command is left.
+#[tactic(auto, unfolding(meaning::specs::Command::finished))]
 pub fn finished(r: Record) -> bool
     ensures { result ≡ command.finished r }
 {
@@ -76,6 +78,7 @@ pub fn finished(r: Record) -> bool
 }
 
 // How many steps of the command are left.
+#[tactic(auto, unfolding(meaning::specs::Command::remaining))]
 pub fn remaining(r: Record) -> u32
     ensures { result ≡ command.remaining r }
 {

@@ -4,7 +4,6 @@ ghost use Rattle.std.specs.Prelude.{◌≡◌, true};
 ghost use Rattle.meaning.specs.Command.{transfers};
 ghost use Rattle.units.specs.Rooms.{room_of};
 ghost use Rattle.command.specs.Data.{bad_data, bad_move, bad_by};
-ghost use Rattle.command.specs.Footprints.{footprint_of};
 ghost use Rattle.command.specs.Look.{may_block, judged_as, looked_as};
 
 use crate::hulled::Hulled;
@@ -16,24 +15,6 @@ use units::rooms;
 use units::rooms::{Room, Rooms};
 
 impl Hulled<'_> {
-    // The footprint of its command.
-    #[tactic(auto, unfolding(crate::specs::Footprints::footprint_of))]
-    pub(crate) fn footprint(&self) -> Footprint
-        ensures { result ≡ footprint_of self.now.r.now }
-    {
-        let r = self.r;
-        Footprint {
-            hull: self.hull,
-            status: r.iopb,
-            sector: r.sector,
-            sectors: touch::moved(r),
-            steps: crate::steps_of(*r),
-            unit: r.unit,
-            reads: crate::reads(*r),
-            writes: crate::writes(*r),
-        }
-    }
-
     // Data outside memory, or ranges that do not add up to the sectors, or are more than a record can hold (Spoiled 5, 9 and 10). Without a
     // list there is one range, which is as long as the sectors are.
     #[tactic(auto, unfolding(crate::specs::Data::bad_data))]
@@ -95,6 +76,13 @@ impl Hulled<'_> {
         1 < r.taken
     }
 
+    // The same by the rooms of all units.
+    fn bad_among(&self, memory: u64, rooms: Rooms) -> bool
+        ensures { result ≡ bad_by memory (room_of rooms self.now.r.now.unit) self.now.r.now }
+    {
+        self.bad(memory, rooms::room_of(rooms, self.r.unit))
+    }
+
     // Whether its command may block one whose footprint is `wanted`: it is earlier, it is unfinished, and their footprints meet.
     #[tactic(auto, unfolding(crate::specs::Look::may_block))]
     fn may_block(&self, wanted: Footprint, earlier: bool) -> bool
@@ -118,6 +106,7 @@ pub fn bad_record(memory: u64, room: Room, r: Record) -> bool
 }
 
 // What is said of a record before any step: its footprint, and whether it is bad.
+// stays: both parts are told of every record, so neither an Option nor a Result says this.
 #[derive(Clone, Copy)]
 pub struct Judged {
     pub footprint: Footprint,
@@ -131,11 +120,12 @@ pub fn judge(memory: u64, rooms: Rooms, r: Record) -> Judged
     let record = Hulled::of(&r);
     Judged {
         footprint: record.footprint(),
-        bad: record.bad(memory, rooms::room_of(rooms, r.unit)),
+        bad: record.bad_among(memory, rooms),
     }
 }
 
 // What a pick sees of a record: whether it is bad, and whether it may block the picked command.
+// stays: both parts are told of every record, so neither an Option nor a Result says this.
 #[derive(Clone, Copy)]
 pub struct Looked {
     pub bad: bool,
@@ -148,7 +138,7 @@ pub fn look(memory: u64, rooms: Rooms, r: Record, wanted: Footprint, earlier: bo
 {
     let record = Hulled::of(&r);
     Looked {
-        bad: record.bad(memory, rooms::room_of(rooms, r.unit)),
+        bad: record.bad_among(memory, rooms),
         near: record.may_block(wanted, earlier),
     }
 }

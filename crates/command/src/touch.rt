@@ -239,7 +239,7 @@ impl Footprint {
         if from + STATUS_BYTES <= other.hull.low {
             return false;
         }
-        from.max(other.hull.low) < other.hull.high.min(from + STATUS_BYTES)
+        from.max(other.hull.low) < (from + STATUS_BYTES).min(other.hull.high)
     }
 
     // The hulls of both have a byte in common, and one of them writes data: it reads sectors.

@@ -1,6 +1,6 @@
 -- `command::touch::list_hull` meets its contract: the hull so far, with the ranges that are left, is the whole; and a range has no more
 -- bytes than its length can say.
-use Rattle.std.proofs.Common.{◌≡◌, ◌+◌, suc, List, [], ◌∷◌, get_or, map, drop, sym, ap, ◌∙◌, arith, drop-cons, add-one}
+use Rattle.std.proofs.Common.{◌≡◌, ◌+◌, List, [], ◌∷◌, get_or, map, drop, sym, ap, ◌∙◌, arith, drop-cons, add-one}
 use Rattle.std.proofs.lemmas.List.{drop_all}
 use Rattle.meaning.specs.declared.Link.{Link}
 use Rattle.meaning.specs.Ranges.{bytes}
@@ -24,8 +24,8 @@ loop-x-preserved c = let l = c.loop-x in
     let next = c.with-h.ensures ∙ ap (λ (b : Bytes). hull_with l.h (bytes b.from b.many)) c.from.ensures.value in
     record {
       whole =
-        l.invariant.whole ∙ ap (λ (ys : List Link). hull_from l.h (map range_of ys)) here
-        ∙ ap (λ (h : Hull). hull_from h (map range_of (drop (l.x-index + 1) xs))) (sym next);
+          l.invariant.whole ∙ ap (λ (ys : List Link). hull_from l.h (map range_of ys)) here
+          ∙ ap (λ (h : Hull). hull_from h (map range_of (drop (l.x-index + 1) xs))) (sym next);
       few = omega (arith, l.invariant.few, c.from.ensures.within, ap (λ (b : Bytes). b.many) c.from.ensures.value, ap (λ (h : Hull). h.bytes) next);
     }
 
