@@ -43,19 +43,10 @@ impl Hulled<'_> {
         ensures { result ≡ bad_move memory room self.now.r.now }
     {
         let r = self.r;
-        if r.count == 0 {
-            return true;
-        }
-        if self.bad_data(memory) {
-            return true;
-        }
-        if ends::goes_past(room.sectors.0, r.sector, r.count as u32) {
-            return true;
-        }
-        if room.protected {
-            return crate::writes(*r);
-        }
-        false
+        r.count == 0
+            || self.bad_data(memory)
+            || ends::goes_past(room.sectors.0, r.sector, r.count as u32)
+            || (room.protected && crate::writes(*r))
     }
 
     // A record that no table in use may hold, by the room of its own unit. Its kind is asked once, before its steps.
@@ -88,13 +79,7 @@ impl Hulled<'_> {
     fn may_block(&self, wanted: Footprint, earlier: bool) -> bool
         ensures { result ≡ may_block self.now.r.now wanted earlier }
     {
-        if !earlier {
-            return false;
-        }
-        if crate::finished(*self.r) {
-            return false;
-        }
-        touch::footprints_meet(self.footprint(), wanted)
+        earlier && !crate::finished(*self.r) && touch::footprints_meet(self.footprint(), wanted)
     }
 }
 
