@@ -1,5 +1,7 @@
 -- A fact of each element of a list, as a product that computes.
+use mathlib.Core.Logic.{inl, inr}
 use mathlib.Core.List.{List, [], ◌∷◌, ◌++◌}
+use Rattle.meaning.specs.Conditions.{SomeOf}
 
 module _ {A : Type 0} where
   abbrev pub All : (A → Type 0) → List A → Type 0
@@ -17,6 +19,12 @@ module _ {A : Type 0} where
   pub all_both : (P Q : A → Type 0) (xs : List A) → All P xs → All Q xs → All (λ x. P x × Q x) xs
   all_both P Q [] h k = tt
   all_both P Q (x ∷ xs) h k = ((h.0, k.0), all_both P Q xs h.1 k.1)
+
+  -- one that has Q has P too, where all have P
+  pub all_some : (P Q : A → Type 0) (xs : List A) → All P xs → SomeOf Q xs → (x : A) × P x × Q x
+  all_some P Q [] h k = absurd k
+  all_some P Q (x ∷ xs) h (inl k) = (x, h.0, k)
+  all_some P Q (x ∷ xs) h (inr k) = all_some P Q xs h.1 k
 
   -- x is one of a list
   pub data Among (x : A) : List A → Type 0 where

@@ -1,11 +1,11 @@
 -- Each condition means what its test computes: read off part by part with the laws of `Means`. And a record that number 9 lets pass,
 -- taken apart.
 use mathlib.Core.Path.{◌≡◌, sym, ◌∙◌}
-use mathlib.Core.Logic.{◌≢◌, ◌⊎◌, inl, inr}
+use mathlib.Core.Logic.{◌⊎◌, inl, inr}
 use Prim.Native.Nat.{ℕ, ◌+◌, ◌*◌, ◌≤◌, ◌<◌}
 use native.Mathlib.Nat.{one-le-mul}
 use native.Mathlib.Omega.{arith}
-use mathlib.Core.Bool.{Bool, true, false, not, ◌&&◌, or_assoc, true≢false}
+use mathlib.Core.Bool.{true, false, not, ◌&&◌, or_assoc, true≢false}
 use mathlib.Core.List.{List, [], ◌∷◌}
 use lib.ListN.{length}
 use lib.Dec.{leb, eqb}
@@ -25,7 +25,7 @@ use Rattle.meaning.specs.Touch.{data_bytes}
 use Rattle.meaning.specs.Command.{reads, writes, transfers, steps_of, finished, no_record}
 use Rattle.meaning.specs.Pick.{bad_transfer, bad_record, spoiled}
 use Rattle.meaning.specs.Conditions.{MaximaWrong, ImageWrong, Present, Absent, ImagesWrong, StoreWrong, SizesWrong, Reads, Writes, Finished, SomeOf, Outside, BadTransfer, BadRecord, Spoiled}
-use Rattle.meaning.proofs.Means.{Means, holds, fails, when_true, when_false, is_false, means_below, means_itself, means_off, means_and, means_or, means_or₃, means_not-and, means_above, means_other, means_lt, means_le, means_eq, means_of, means_some}
+use Rattle.meaning.proofs.Means.{Means, when_true, when_false, is_false, means_stable, means_below, means_itself, means_off, means_and, means_or, means_or₃, means_not-and, means_above, means_other, means_lt, means_le, means_eq, means_of, means_some}
 use Rattle.meaning.proofs.All.{All}
 
 at_most : {a b : ℕ} → ¬ (a < b) → b ≤ a
@@ -65,19 +65,13 @@ means_sizes d s = means_or (means_store d s.store) (means_lt (length s.table) mo
 
 -- a unit that is there is one of the four
 pub present_below : (d : Drives) (u : ℕ) → Present d u → u < most_units
-present_below d u e = go (means_lt u most_units)
-  where
-    go : {b : Bool} → Means (u < most_units) b → u < most_units
-    go (holds h) = h
-    go (fails n) = absurd (true≢false (sym e ∙ d.absent_above u (omega arith)))
+present_below d u e = means_stable (means_lt u most_units) (λ n. true≢false (sym e ∙ d.absent_above u (at_most n)))
 
 -- where no image is wrong, that of a unit that is there has the bytes of its drive's sectors, of which there is one at least
 pub image_size : (d : Drives) (s : Store) → images_wrong d s ≡ false → (u : ℕ) → Present d u → length (s (disk u)) ≡ sector_bytes * sector_count (d.on u)
-image_size d s right u e = go (means_eq (length (s (disk u))) (sector_bytes * sector_count (d.on u)))
-  where
-    go : {b : Bool} → Means (length (s (disk u)) ≡ sector_bytes * sector_count (d.on u)) b → length (s (disk u)) ≡ sector_bytes * sector_count (d.on u)
-    go (holds q) = q
-    go (fails n) = absurd (when_false (means_images d s) right (u, present_below d u e, (e, inr (inr n))))
+image_size d s right u e =
+    means_stable (means_eq (length (s (disk u))) (sector_bytes * sector_count (d.on u)))
+    (λ n. when_false (means_images d s) right (u, present_below d u e, (e, inr (inr n))))
 
 pub some_sector : (d : Drive) → 1 ≤ sector_count d
 unfolding sector_count per_cylinder
@@ -168,7 +162,7 @@ good d s r e =
       some = λ t. above (λ z. transfer t (inr (inl z)));
       held = λ t. at_most (λ h. transfer t (inr (inr (inl h))));
       bytes_in_lem = λ t. all_inside (length (s memory)) (data_bytes r) (λ o. transfer t (inr (inr (inr (inl o)))));
-      bytes_whole = λ t. same (means_eq (bytes_in (data_bytes r)) (sector_bytes * r.count)) (λ o. transfer t (inr (inr (inr (inr (inl o))))));
+      bytes_whole = λ t. means_stable (means_eq (bytes_in (data_bytes r)) (sector_bytes * r.count)) (λ o. transfer t (inr (inr (inr (inr (inl o))))));
       sectors_in = λ t. at_most (λ h. transfer t (inr (inr (inr (inr (inr (inl h)))))));
     }
   where
@@ -177,7 +171,3 @@ good d s r e =
 
     is_there : {P : Type 0} → Means P (not (d.on r.unit).present) → ¬ P → Present d r.unit
     is_there m n = not-false (d.on r.unit).present (is_false m n)
-
-    same : {a b : ℕ} {x : Bool} → Means (a ≡ b) x → ¬ (a ≢ b) → a ≡ b
-    same (holds q) h = q
-    same (fails q) h = absurd (h q)

@@ -2,7 +2,7 @@
 -- writes; and a command waits exactly where an earlier unfinished one conflicts with it. Ranges meet where something is in both.
 use mathlib.Core.Path.{◌≡◌, refl, sym, ap}
 use mathlib.Core.Logic.Iff
-use mathlib.Core.Logic.{◌↔◌, ◌⊎◌, inl, inr, ⊎_elim, ⊎_map}
+use mathlib.Core.Logic.{◌↔◌, ◌⊎◌, inl, ⊎_elim}
 use Prim.Native.Nat.{ℕ}
 use mathlib.Core.Bool.{Bool, true, false, not, ◌&&◌}
 use mathlib.Core.List.{List, [], ◌∷◌, ◌++◌, append-nil}

@@ -37,6 +37,11 @@ module _ {P : Type 0} where
   is_false (holds p) n = absurd (n p)
   is_false (fails n) m = refl
 
+  -- what is tested and cannot fail holds
+  pub means_stable : {b : Bool} → Means P b → ¬ (¬ P) → P
+  means_stable (holds p) h = p
+  means_stable (fails n) h = absurd (h n)
+
   pub same_test : {a b : Bool} → Means P a → Means P b → a ≡ b
   same_test (holds p) y = sym (is_true y p)
   same_test (fails n) y = sym (is_false y n)

@@ -19,7 +19,7 @@ use Rattle.meaning.specs.Command.{listed, links_of}
 use Rattle.meaning.specs.Touch.{data_bytes}
 use Rattle.meaning.specs.Step.{pieces_at}
 use Rattle.meaning.specs.Conditions.{SomeOf}
-use Rattle.meaning.proofs.All.{All, all_map}
+use Rattle.meaning.proofs.All.{All, all_map, all_some}
 use Rattle.meaning.proofs.Conditions.{Inside}
 
 -- ---- every byte that was asked for
@@ -80,12 +80,6 @@ module _ (lo hi : ℕ) where
         pieces_sorted rs (b + x.many),
       )
 
-  -- they hold bytes from lo up to hi alone
-  pub held_asked : (rs : List Range) (b v : ℕ) → SomeOf (Holds v) (pieces_of rs b lo hi) → (lo ≤ v) × (v < hi)
-  held_asked [] b v k = absurd k
-  held_asked (x ∷ rs) b v (inl k) = let q = piece_asked x b lo hi (omega arith) in (omega (arith, q.0), omega (arith, q.1))
-  held_asked (x ∷ rs) b v (inr k) = held_asked rs (b + x.many) v k
-
   -- each where the ranges have it
   pub pieces_at_lem : (rs : List Range) (b : ℕ) → All (λ p. (i : ℕ) → i < p.many → p.from + i ≡ byte_at rs (p.at + i - b)) (pieces_of rs b lo hi)
   pieces_at_lem [] b = tt
@@ -114,6 +108,14 @@ module _ (lo hi : ℕ) where
   pub pieces_asked : (rs : List Range) (b : ℕ) → All (λ p. 1 ≤ p.many → (lo ≤ p.at) × (p.at + p.many ≤ hi)) (pieces_of rs b lo hi)
   pieces_asked [] b = tt
   pieces_asked (x ∷ rs) b = (piece_asked x b lo hi, pieces_asked rs (b + x.many))
+
+  -- they hold bytes from lo up to hi alone
+  pub held_asked : (rs : List Range) (b v : ℕ) → SomeOf (Holds v) (pieces_of rs b lo hi) → (lo ≤ v) × (v < hi)
+  held_asked rs b v k =
+      let p = all_some _ (Holds v) (pieces_of rs b lo hi) (pieces_asked rs b) k in
+      let h = p.2 in
+      let q = p.1 (omega arith) in
+      (omega (arith, q.0), omega (arith, q.1))
 
   pub pieces_inside : (n : ℕ) (rs : List Range) (b : ℕ) → All (Inside n) rs → All (λ p. p.from + p.many ≤ n) (pieces_of rs b lo hi)
   pieces_inside n [] b h = tt

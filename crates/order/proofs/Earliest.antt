@@ -152,30 +152,34 @@ no_pick : (d : Drives) (n : ℕ) (s : State) → by_picks d n [] s ≡ at_start 
 unfolding by_picks picks_from
 no_pick d n s = refl
 
--- with one step of budget more, where the rest of it is known to be picks
-one_more_pick : (d : Drives) (n b : ℕ) (s : State) → run_number d n s ≡ 0
-    → ((u : State) → run_number d n u ≡ 0 → as_written d n b u ≡ by_picks d n (written_picks n b u.table) u)
-    → as_written d n (suc b) s ≡ by_picks d n (written_picks n (suc b) s.table) s
-unfolding written_picks
-one_more_pick d n b s e later = go (all_finished s.table n) refl
-  where
-    p : ℕ
-    p = earliest s.table
+-- what holds of the picks that a run as written would take: of none, without budget or where all are finished; and of one more ahead of those
+-- of the rest, which is the earliest unfinished command's and is accepted
+module _ (d : Drives) (n : ℕ) (P : ℕ → State → List ℕ → Type 0)
+    (none : (s : State) → P 0 s [])
+    (ended : (b : ℕ) (s : State) → all_finished s.table n ≡ true → P (suc b) s [])
+    (ahead : (b p : ℕ) (ps : List ℕ) (s : State) → run_number d n s ≡ 0 → pick_number d n p s ≡ 0 → Earliest s.table n p → P b (step_at d p s) ps → P (suc b) s (p ∷ ps)) where
+  pub of_written_picks : (b : ℕ) (s : State) → run_number d n s ≡ 0 → P b s (written_picks n b s.table)
+  unfolding written_picks
+  of_written_picks zero s e = none s
+  of_written_picks (suc b) s e = go (all_finished s.table n) refl (λ u f. of_written_picks b u f)
+    where
+      p : ℕ
+      p = earliest s.table
 
-    more : List ℕ
-    more = written_picks n b (set s.table p (stepped (get_or s.table p no_record)))
+      more : List ℕ
+      more = written_picks n b (set s.table p (stepped (get_or s.table p no_record)))
 
-    go : (x : Bool) → all_finished s.table n ≡ x → as_written d n (suc b) s ≡ by_picks d n (cond x [] (p ∷ more)) s
-    go true f = written_done d n (suc b) s f ∙ sym (no_pick d n s)
-    go false f =
-        let h = earliest_is_there s.table n f in
-        let z = earliest_never_waits d n p s e h in
-        let u = step_at d p s in
-        written_step d n b p s (in_table d n s (run_passed d n s e)) h
-        ∙ ap one_more (after_step d p s (λ t. as_written d n b u ≡ by_picks d n (written_picks n b t) u) (later u (still_accepted d n p s z)))
-        ∙ sym (pick_first d n p more s z)
+      go : (x : Bool) → all_finished s.table n ≡ x → ((u : State) → run_number d n u ≡ 0 → P b u (written_picks n b u.table)) → P (suc b) s (cond x [] (p ∷ more))
+      go true f later = ended b s f
+      go false f later =
+          let h = earliest_is_there s.table n f in
+          let z = earliest_never_waits d n p s e h in
+          let u = step_at d p s in
+          ahead b p more s e z h (after_step d p s (λ t. P b u (written_picks n b t)) (later u (still_accepted d n p s z)))
 
 pub written_is_picks : WrittenIsPicks
-unfolding written_picks
-written_is_picks d n zero s e = written_none d n s ∙ sym (no_pick d n s)
-written_is_picks d n (suc b) s e = one_more_pick d n b s e (λ u f. written_is_picks d n b u f)
+written_is_picks d n =
+    of_written_picks d n (λ b s ps. as_written d n b s ≡ by_picks d n ps s)
+    (λ s. written_none d n s ∙ sym (no_pick d n s))
+    (λ b s f. written_done d n (suc b) s f ∙ sym (no_pick d n s))
+    (λ b p ps s e z h rest. written_step d n b p s (in_table d n s (run_passed d n s e)) h ∙ ap one_more rest ∙ sym (pick_first d n p ps s z))

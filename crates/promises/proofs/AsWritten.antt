@@ -1,21 +1,16 @@
 -- A run as written takes each step of the earliest unfinished command: it is the run by the picks that it would take (`order`), of which
 -- none is refused, since such a command never waits.
 use mathlib.Core.Path.{◌≡◌, refl, ap}
-use Prim.Native.Nat.{ℕ, zero, suc}
-use mathlib.Core.Bool.{Bool, true, false, cond}
-use mathlib.Core.List.{List, [], ◌∷◌}
-use lib.ListN.{get_or, set}
+use Prim.Native.Nat.{ℕ}
+use mathlib.Core.Bool.{Bool, cond}
+use mathlib.Core.List.{List, ◌∷◌}
 use Rattle.meaning.specs.Drives.{Drives}
 use Rattle.meaning.specs.State.{State}
-use Rattle.meaning.specs.Command.{no_record}
-use Rattle.meaning.specs.Step.{stepped}
-use Rattle.meaning.specs.Pick.{step_at}
-use Rattle.meaning.specs.Run.{all_finished, run_number, Tally, at_start, as_written, ran_to, run_reply, RunGives}
+use Rattle.meaning.specs.Run.{run_number, Tally, at_start, as_written, ran_to, run_reply, RunGives}
 use Rattle.meaning.proofs.Means.{Means, holds, fails, means_eq}
-use Rattle.meaning.proofs.Still.{still_accepted}
-use Rattle.order.specs.States.{earliest, written_picks}
+use Rattle.order.specs.States.{written_picks}
 use Rattle.order.specs.Earliest.{Earliest}
-use Rattle.order.proofs.Earliest.{earliest_is_there, earliest_never_waits, written_is_picks}
+use Rattle.order.proofs.Earliest.{of_written_picks, written_is_picks}
 use Rattle.promises.specs.Taken.{Along, BySteps, Tried, no_more, accept, refuse, RunAsWrittenTakesSteps}
 use Rattle.promises.proofs.Taken.{Accepted, along_map, no_steps, picks_taken}
 
@@ -31,25 +26,7 @@ module _ (d : Drives) (n : ℕ) where
   First u p = Accepted d n u p × Earliest u.table n p
 
   written_along : (b : ℕ) (s : State) → run_number d n s ≡ 0 → Along d First (written_picks n b s.table) s
-  unfolding written_picks step_at
-  written_along zero s e = tt
-  written_along (suc b) s e = go (all_finished s.table n) refl (λ u f. written_along b u f)
-    where
-      p : ℕ
-      p = earliest s.table
-
-      more : List ℕ
-      more = written_picks n b (set s.table p (stepped (get_or s.table p no_record)))
-
-      go : (x : Bool)
-          → all_finished s.table n ≡ x
-          → ((u : State) → run_number d n u ≡ 0 → Along d First (written_picks n b u.table) u)
-          → Along d First (cond x [] (p ∷ more)) s
-      go true f later = tt
-      go false f later =
-          let h = earliest_is_there s.table n f in
-          let z = earliest_never_waits d n p s e h in
-          ((z, h), later (step_at d p s) (still_accepted d n p s z))
+  written_along = of_written_picks d n (λ b s ps. Along d First ps s) (λ s. tt) (λ b s f. tt) (λ b p ps s e z h rest. ((z, h), rest))
 
 pub run_as_written_takes_steps : RunAsWrittenTakesSteps
 unfolding RunGives run_reply ran_to

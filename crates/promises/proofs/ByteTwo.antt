@@ -1,13 +1,13 @@
 -- Steps at two sets of drives that are the same but for the mark of the command's own unit: they leave the same bytes but for byte 2 of the
 -- close, and where the marks are the same they leave the same store.
-use mathlib.Core.Path.{◌≡◌, refl, sym, ap, ◌∙◌}
+use mathlib.Core.Path.{◌≡◌, refl, ap}
 use mathlib.Core.Logic.{◌≢◌}
 use Prim.Native.Nat.{ℕ, zero, suc, ◌+◌}
 use native.Mathlib.Omega.{arith}
 use mathlib.Core.Bool.{Bool, true, false, cond}
 use mathlib.Core.List.{List, [], ◌∷◌, ◌++◌}
 use lib.ListN.{get_or, set}
-use lib.Seq.{sets, get_or-set_other}
+use lib.Seq.{sets}
 use lib.Dec.{eqb}
 use Rattle.meaning.specs.declared.Record.{Record}
 use Rattle.meaning.specs.Drives.{Drives}

@@ -15,7 +15,7 @@ use Rattle.meaning.specs.Store.{Space, same, Store, area, Move, copy, move, move
 use Rattle.meaning.specs.Links.{bytes_in}
 use Rattle.meaning.specs.Pieces.{Piece, byte_at}
 use Rattle.meaning.specs.Conditions.{Within, SomeOf}
-use Rattle.meaning.proofs.All.{All, all_map}
+use Rattle.meaning.proofs.All.{All, all_map, all_some}
 use Rattle.meaning.proofs.Means.{is_true}
 use Rattle.meaning.proofs.Spaces.{AsLong, length_moves}
 use Rattle.meaning.proofs.Ranges.{means_same}
@@ -61,9 +61,11 @@ module _ (Q P : Space) (other : same Q P ≡ false) (from to : Piece → ℕ) (S
 
   -- a later piece holds later bytes
   held_later : (n : ℕ) (ps : List Piece) → All (λ q. n ≤ q.at) ps → (w : ℕ) → SomeOf (Holds w) ps → n ≤ w
-  held_later n [] h w k = absurd k
-  held_later n (p ∷ ps) h w (inl k) = let a = h.0 in omega arith
-  held_later n (p ∷ ps) h w (inr k) = held_later n ps h.1 w k
+  held_later n ps h w k =
+      let q = all_some _ (Holds w) ps h k in
+      let a = q.1 in
+      let b = q.2 in
+      omega arith
 
   pub all_in : (ps : List Piece) → All Straight ps → Sorted ps → (s : Store) → All (Fits s) ps → (v : ℕ) → SomeOf (Holds v) ps
       → ((w : ℕ) → v < w → SomeOf (Holds w) ps → D w ≢ D v)
