@@ -1,12 +1,11 @@
--- A unit's own of four is its element in a list of them; and the room of a unit, out of the rooms of all, is the room on the drive that
+-- The image of a unit out of four; and the room of a unit, out of the rooms of all, is the room on the drive that
 -- the unit has.
 use mathlib.Core.Path.{◌≡◌, refl, sym, ap, ◌∙◌}
-use Prim.Native.Nat.{ℕ, zero, suc, ◌≤◌}
+use Prim.Native.Nat.{ℕ, zero, suc}
 use native.Mathlib.Omega.{arith}
 use mathlib.Core.Bool.{Bool, true, false, cond}
 use mathlib.Core.List.{List, [], ◌∷◌}
 use lib.ListN.{get_or, length}
-use lib.Dec.{ltb}
 use borrow.Author.Tests.{le-ltb, ne_eqb}
 use Rattle.meaning.specs.declared.Drive.{Drive}
 use Rattle.meaning.specs.declared.LentDrives.{LentDrives}
@@ -16,31 +15,16 @@ use Rattle.meaning.specs.Sectors.{sector_count}
 use Rattle.units.specs.OfUnit.{of_unit}
 use Rattle.units.specs.Rooms.{no_room, room_in, rooms_of, room_of}
 
-of_unit_above : {A : Type 0} (u : ℕ) (a b c d n : A) → most_units ≤ u → of_unit u a b c d n ≡ n
-unfolding of_unit
-of_unit_above u a b c d n h = simp (ne_eqb u 0 (λ e. omega arith), ne_eqb u 1 (λ e. omega arith), ne_eqb u 2 (λ e. omega arith), ne_eqb u 3 (λ e. omega arith))
-
-pub of_unit_in : {A : Type 0} (xs : List A) (n : A) (u : ℕ)
-    → of_unit u (get_or xs 0 n) (get_or xs 1 n) (get_or xs 2 n) (get_or xs 3 n) n ≡ cond (ltb u most_units) (get_or xs u n) n
-unfolding of_unit
-of_unit_in xs n zero = refl
-of_unit_in xs n (suc zero) = refl
-of_unit_in xs n (suc (suc zero)) = refl
-of_unit_in xs n (suc (suc (suc zero))) = refl
-of_unit_in xs n (suc (suc (suc (suc u)))) =
-    let v = suc (suc (suc (suc u))) in
-    of_unit_above v _ _ _ _ n (omega arith) ∙ sym (ap (λ (b : Bool). cond b (get_or xs v n) n) (le-ltb v most_units (omega arith)))
-
 -- with the first of four for a unit above 3 it is the unit's image
-pub of_unit_image : {A : Type 0} (u : ℕ) (a b c d : A) → of_unit u a b c d a ≡ image_of u a b c d
-unfolding of_unit image_of
+pub of_unit_image : {A : Type 0} (u : ℕ) (a b c d : A) → of_unit (a ∷ b ∷ c ∷ d ∷ []) a u ≡ image_of u a b c d
+unfolding image_of
 of_unit_image zero a b c d = refl
 of_unit_image (suc zero) a b c d = refl
 of_unit_image (suc (suc zero)) a b c d = refl
 of_unit_image (suc (suc (suc zero))) a b c d = refl
 of_unit_image (suc (suc (suc (suc u)))) a b c d =
     let v = suc (suc (suc (suc u))) in
-    simp (ne_eqb v 0 (λ e. omega arith), ne_eqb v 1 (λ e. omega arith), ne_eqb v 2 (λ e. omega arith), ne_eqb v 3 (λ e. omega arith))
+    simp (le-ltb v most_units (omega arith), ne_eqb v 1 (λ e. omega arith), ne_eqb v 2 (λ e. omega arith), ne_eqb v 3 (λ e. omega arith))
 
 -- where none is had there is no drive either
 pub there_or_none : (b : Bool) (d : Drive) → there (cond b d no_drive) ≡ cond b (there d) no_drive

@@ -1,6 +1,7 @@
 -- A unit's own of what four units have.
-use Rattle.std.specs.Prelude.{ℕ, cond, eqb}
+use Rattle.std.specs.Prelude.{ℕ, List, cond, get_or, ltb}
+use Rattle.meaning.specs.Drives.{most_units}
 
--- a, b, c and d are those of the units 0 to 3; a unit above 3 has n
-unfoldable pub of_unit : {A : Type 0} → ℕ → A → A → A → A → A → A
-of_unit u a b c d n = cond (eqb u 0) a (cond (eqb u 1) b (cond (eqb u 2) c (cond (eqb u 3) d n)))
+-- xs are those of the units 0 to 3; a unit above 3 has n
+abbrev pub of_unit : {A : Type 0} → List A → A → ℕ → A
+of_unit xs n u = cond (ltb u most_units) (get_or xs u n) n

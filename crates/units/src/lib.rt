@@ -25,14 +25,14 @@ fn there(d: Drive) -> Drive
 
 // A unit's own of what the units 0 to 3 have, or what is told of a unit above 3. It is found by comparing and not by an index, so that the
 // compiler keeps four drives in registers.
-fn of_unit<T: Copy>(unit: u8, unit0: T, unit1: T, unit2: T, unit3: T, above: T) -> T
-    ensures { result ≡ of_unit unit unit0 unit1 unit2 unit3 above }
+fn of_unit<T: Copy>(unit: u8, own: [T; 4], above: T) -> T
+    ensures { result ≡ of_unit own above unit }
 {
     match unit {
-        0 => unit0,
-        1 => unit1,
-        2 => unit2,
-        3 => unit3,
+        0 => own[0],
+        1 => own[1],
+        2 => own[2],
+        3 => own[3],
         _ => above,
     }
 }
@@ -41,15 +41,7 @@ fn of_unit<T: Copy>(unit: u8, unit0: T, unit1: T, unit2: T, unit3: T, above: T) 
 pub fn drive_of(l: LentDrives, unit: u8) -> Drive
     ensures { result ≡ drives.drive_of l unit }
 {
-    let units = l.units;
-    there(of_unit(
-        unit,
-        units[0],
-        units[1],
-        units[2],
-        units[3],
-        Drive::default(),
-    ))
+    there(of_unit(unit, l.units, Drive::default()))
 }
 
 // A unit is there, and its image of so many bytes is over its limit or not of the drive's size, or the drive cannot be.
@@ -64,15 +56,13 @@ fn unit_wrong(l: LentDrives, unit: u8, bytes: u64) -> bool
 pub fn images_wrong(disks: LentDisks<'_>) -> bool
     ensures { (m : List ℕ) → result ≡ images_wrong (drives.drives_of disks.entry.drives) (lent m (images_of disks.entry)) }
 {
-    let drives = disks.drives;
-    if unit_wrong(drives, 0, disks.image0.len() as u64) {
-        return true;
-    }
-    if unit_wrong(drives, 1, disks.image1.len() as u64) {
-        return true;
-    }
-    if unit_wrong(drives, 2, disks.image2.len() as u64) {
-        return true;
-    }
-    unit_wrong(drives, 3, disks.image3.len() as u64)
+    let units = [
+        (0, disks.image0.len() as u64),
+        (1, disks.image1.len() as u64),
+        (2, disks.image2.len() as u64),
+        (3, disks.image3.len() as u64),
+    ];
+    units
+        .iter()
+        .any(|&(unit, bytes)| unit_wrong(disks.drives, unit, bytes))
 }

@@ -32,14 +32,8 @@ pub fn look_number(disks: LentDisks<'_>, unit: u8, sector: u32) -> Result<(), Re
 fn image_of<'a>(disks: LentDisks<'a>, unit: u8) -> &'a [u8]
     ensures { IsAll (image_of unit disks.entry.image0 disks.entry.image1 disks.entry.image2 disks.entry.image3) result }
 {
-    of_unit(
-        unit,
-        disks.image0,
-        disks.image1,
-        disks.image2,
-        disks.image3,
-        disks.image0,
-    )
+    let images = [disks.image0, disks.image1, disks.image2, disks.image3];
+    of_unit(unit, images, disks.image0)
 }
 
 // The sector's 512 bytes of the unit's image itself, or an empty part exactly where its number is not 0: which bytes of which lent run these

@@ -53,6 +53,5 @@ pub fn rooms_of(l: LentDrives) -> Rooms
 pub fn room_of(rooms: Rooms, unit: u8) -> Room
     ensures { result ≡ room_of rooms unit }
 {
-    let units = rooms.units;
-    of_unit(unit, units[0], units[1], units[2], units[3], NO_ROOM)
+    of_unit(unit, rooms.units, NO_ROOM)
 }
