@@ -104,7 +104,10 @@ fn follow_chain(memory: &[u8], start: u32) -> Result<Found, Refusal>
         let c = code::copied(memory, at);
         if !goes_on(c) {
             let commands = n + 1;
-            return Ok(Found { addresses, commands });
+            return Ok(Found {
+                addresses,
+                commands,
+            });
         }
         past = furthest(past, at);
         at = c.next;

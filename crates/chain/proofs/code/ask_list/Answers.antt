@@ -31,11 +31,19 @@ returns-then-some_odd c =
 pub returns-then-some_outside : goal.returns-then-some_outside
 unfolding list_code
 returns-then-some_outside c =
-    simp (total (goal.at.returns-then-some_outside c).After-sum-bytes, eq-eqb _ _ c.if-bytes-count.false, sym c.some_odd.ensures ∙ c.if-some_odd.false,
-    sym c.some_outside.ensures ∙ c.if-some_outside.true)
+    simp (
+      total (goal.at.returns-then-some_outside c).After-sum-bytes,
+      eq-eqb _ _ c.if-bytes-count.false,
+      sym c.some_odd.ensures ∙ c.if-some_odd.false,
+      sym c.some_outside.ensures ∙ c.if-some_outside.true,
+    )
 
 pub returns : goal.returns
 unfolding list_code
 returns c =
-    simp (total (goal.at.returns c).After-sum-bytes, eq-eqb _ _ c.if-bytes-count.false, sym c.some_odd.ensures ∙ c.if-some_odd.false,
-    sym c.some_outside.ensures ∙ c.if-some_outside.false)
+    simp (
+      total (goal.at.returns c).After-sum-bytes,
+      eq-eqb _ _ c.if-bytes-count.false,
+      sym c.some_odd.ensures ∙ c.if-some_odd.false,
+      sym c.some_outside.ensures ∙ c.if-some_outside.false,
+    )
