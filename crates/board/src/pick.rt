@@ -1,14 +1,15 @@
 // A pick: the numbers 1, 9, 8, 7, 6, 0 in that order (Pick 2 to 7), and on 0 one step at its place. Beneath its two faces, the table by value
 // and the lent one, it is told what is seen of the table, and hands back what it changes: the steps taken at its place.
 ghost use Rattle.std.specs.Prelude.{◌≡◌};
-ghost use Rattle.meaning.specs.Store.{lent, images};
+ghost use Rattle.meaning.specs.Lends.{store_of};
 ghost use Rattle.meaning.specs.Drives.{drives_of};
 ghost use Rattle.board.specs.Sight.{place_seen, refused_pick, PickSees};
 
 use crate::{RECORDS, step};
 use chain::sizes;
 use command::sound;
-use meaning::{LentDrives, Record};
+use meaning::Record;
+use meaning::lends::LentStore;
 use units::rooms;
 
 // What a pick sees of its table beside the record at its place: whether a record in use is bad, and whether an earlier unfinished command
@@ -43,21 +44,16 @@ fn refused(number: u8) -> PickedTaken
 // A pick by the record at its place, and by what else is seen of a table of 32 records or more. A bad record there is refused here too,
 // whatever was seen, since a public function asks nothing of its caller. What is lent has one lifetime, as in the two runs, so that the
 // exported calls can lend all of it at their own.
-pub fn pick_seen<'a>(
-    memory: &'a mut [u8],
-    image0: &'a mut [u8],
-    image1: &'a mut [u8],
-    image2: &'a mut [u8],
-    image3: &'a mut [u8],
-    l: LentDrives,
+pub fn pick_seen(
+    store: &mut LentStore<'_>,
     r: Record,
     seen: Sight,
     commands: usize,
     place: usize,
 ) -> PickedTaken
-    ensures { PickSees (drives_of l) commands place r seen (lent memory.old (images image0.old image1.old image2.old image3.old)) result (lent memory.new (images image0.new image1.new image2.new image3.new)) }
+    ensures { PickSees (drives_of store.old.drives) commands place r seen (store_of store.old) result (store_of store.new) }
 {
-    if sizes::sizes_wrong(memory, image0, image1, image2, image3, l) {
+    if sizes::sizes_wrong(store.memory, store.disks()) {
         return refused(1);
     }
     if RECORDS < commands {
@@ -75,11 +71,11 @@ pub fn pick_seen<'a>(
     if seen.blocked {
         return refused(6);
     }
-    let room = rooms::room_in(units::drive_of(l, r.unit));
-    if sound::bad_record(memory.len() as u64, room, r) {
+    let room = rooms::room_in(units::drive_of(store.drives, r.unit));
+    if sound::bad_record(store.memory.len() as u64, room, r) {
         return refused(9);
     }
-    step::take_steps(memory, image0, image1, image2, image3, l, r, 1);
+    step::take_steps(store, &r, 1);
     PickedTaken {
         number: 0,
         taken: r.taken + 1,
