@@ -8,3 +8,6 @@ pub mod Searching
 pub mod Picking
 pub mod Sighting
 pub mod Taken
+pub mod Runs
+pub mod ByPicks
+pub mod Written

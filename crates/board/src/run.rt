@@ -119,10 +119,10 @@ fn take_within(store: &mut LentStore<'_>, table: &mut [Record], place: usize, mo
     ensures record { table.new ≡ set table.old place (run.advanced result (get_or table.old place command.no_record)) }
     ensures moved { store_of store.new ≡ run.steps_done (drives_of store.old.drives) result (get_or table.old place command.no_record) (store_of store.old) }
 {
-    let r = &mut table[place];
-    let n = most.min(u64::from(command::remaining(*r))) as u32;
-    step::take_steps(store, r, n);
-    r.taken += n;
+    let r = table[place];
+    let n = most.min(u64::from(command::remaining(r))) as u32;
+    step::take_steps(store, &table[place], n);
+    table[place].taken = r.taken + n;
     n
 }
 

@@ -4,7 +4,7 @@ use Prim.Native.Nat.{ℕ}
 use native.Mathlib.Omega.{arith}
 use lib.Dec.{eqb}
 use Rattle.board.proofs.Picking.{no_place, is_finished}
-use Rattle.board.proofs.Searching.{watching_fewer}
+use Rattle.board.proofs.ByPicks.{search_decides}
 use Rattle.board.proofs.run.may_go.Goals as goal
 use Rattle.board.proofs.run.may_go.Goals.{then-commands-place-via-then-commands-place, then-commands-place-via-else-commands-place+then-finished}
 
@@ -16,4 +16,6 @@ returns-then-commands-place-clause-free c = let a = c.args in
     ]
 
 pub returns-clause-free : goal.returns-clause-free
-returns-clause-free c = ?
+returns-clause-free c = let a = c.args in
+    let e = c.search_on-searched.ensures in
+    search_decides a.table.now a.commands a.place c.search_on-searched.result c.if-commands-place.false (omega (arith, c.requires.0, c.requires.1, c.if-commands-place.false)) (sym c.finished.ensures ∙ c.if-finished.false) e.far e.passed e.stopped
