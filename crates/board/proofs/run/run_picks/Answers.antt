@@ -87,11 +87,11 @@ there c = let a = c.args in
     let l = c.loop-alike in
     in_table (drives_of a.store.now.drives) a.commands (state_in (store_of l.store) l.table) l.invariant.1.passed
 
-pub slice_bounds-all_finished-end : goal.slice_bounds-all_finished-end
-slice_bounds-all_finished-end c = there (goal.at.slice_bounds-all_finished-end c).In-None
+pub slice_bounds-accepted-end : goal.slice_bounds-accepted-end
+slice_bounds-accepted-end c = there (goal.at.slice_bounds-accepted-end c).In-None
 
-pub slice_bounds-all_finished-end-2 : goal.slice_bounds-all_finished-end-2
-slice_bounds-all_finished-end-2 c = sym (length-take-le c.args.commands c.loop-alike.table (there (goal.at.slice_bounds-all_finished-end-2 c).In-None))
+pub slice_bounds-accepted-end-2 : goal.slice_bounds-accepted-end-2
+slice_bounds-accepted-end-2 c = sym (length-take-le c.args.commands c.loop-alike.table (there (goal.at.slice_bounds-accepted-end-2 c).In-None))
 
 pub returns-clause-gives : goal.returns-clause-gives
 unfolding all_finished
@@ -99,5 +99,6 @@ returns-clause-gives c = let a = c.args in
     let l = c.loop-alike in
     let d = drives_of a.store.now.drives in
     let s = state_in (store_of a.store.now) a.table.now in
-    accepted_gives d a.commands (by_picks d a.commands a.picks.now) s l.steps (length a.picks.now - l.steps) (state_in (store_of l.store) l.table) (sym c.in-Ok.ensures.number)
-    (all_picked d a.commands a.picks.now (store_of a.store.now) a.table.now (store_of l.store) l.table l.watches l.steps (chunk_by_rest l.alike-iterator) l.invariant.1 c.in-None.ensures.steps.0) c.all_finished.result c.all_finished.ensures
+    subst (λ (x : Ran). RunGives d a.commands (by_picks d a.commands a.picks.now) s x (state_in (store_of l.store) l.table)) (sym c.accepted.ensures)
+    (accepted_gives d a.commands (by_picks d a.commands a.picks.now) s l.steps (length a.picks.now - l.steps) (state_in (store_of l.store) l.table) (sym c.in-Ok.ensures.number)
+    (all_picked d a.commands a.picks.now (store_of a.store.now) a.table.now (store_of l.store) l.table l.watches l.steps (chunk_by_rest l.alike-iterator) l.invariant.1 c.in-None.ensures.steps.0) _ refl)
