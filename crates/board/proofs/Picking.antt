@@ -1,5 +1,5 @@
--- The numbers of a pick in their order, as the code tests them; what is handed over of a caller's table; and what a pick gives, refused and
--- accepted.
+-- The numbers of a pick in their order, as the code tests them; what a look over the records in use tells of them; and what a pick gives,
+-- refused and accepted.
 use mathlib.Core.Path.{◌≡◌, refl, sym, ap, ◌∙◌, subst}
 use Prim.Native.Nat.{ℕ, ◌≤◌, ◌<◌, min}
 use native.Mathlib.Omega.{arith}
@@ -29,7 +29,6 @@ use Rattle.meaning.proofs.Records.{unfinished_some}
 use Rattle.command.specs.Data.{bad_in}
 use Rattle.command.proofs.Data.{bad_in_lem}
 use Rattle.board.specs.Ready.{ReadyIn}
-use Rattle.board.specs.Changes.{handed}
 use Rattle.board.specs.Sight.{place_seen, blocking, looked_over}
 use Rattle.board.proofs.Moving.{ready}
 use Rattle.board.proofs.Searching.{none_here}
@@ -62,27 +61,6 @@ over_most d n s h = or_first (ltb most_commands n) _ (lt-ltb most_commands n h)
 pub by_records : (d : Drives) (n : ℕ) (s : State) → n ≤ most_commands → spoiled d n s ≡ some_of (bad_record d s.store) (take n s.table)
 unfolding spoiled
 by_records d n s h = or_second (ltb most_commands n) _ (le-ltb most_commands n h)
-
--- ---- what is handed over
-
-module _ (d : Drives) (many : ℕ) (s : State) (full : length s.table ≡ most_commands) where
-  short_handed : ltb (length (take many s.table)) most_commands ≡ ltb many most_commands
-  short_handed = go (means_lt many most_commands)
-    where
-      go : {b : Bool} → Means (many < most_commands) b → ltb (length (take many s.table)) most_commands ≡ b
-      go (holds h) = lt-ltb (length (take many s.table)) most_commands (omega (arith, length-take many s.table))
-      go (fails h) = le-ltb (length (take many s.table)) most_commands (omega (arith, length-take many s.table))
-
-  pub sizes_handed : sizes_wrong d (handed many s) ≡ (store_wrong d s.store || ltb many most_commands)
-  unfolding sizes_wrong
-  sizes_handed = ap (λ (b : Bool). store_wrong d s.store || b) short_handed
-
-  pub handed_whole : most_commands ≤ many → handed many s ≡ s
-  handed_whole h = ap (λ (t : List Record). record { table = t; store = s.store }) (take_all many s.table (omega arith))
-
-  -- sizes that are right: all 32 records are handed over
-  pub all_handed : (store_wrong d s.store || ltb many most_commands) ≡ false → handed many s ≡ s
-  all_handed right = handed_whole (ltb-false many most_commands (or-false (store_wrong d s.store) (ltb many most_commands) right).1)
 
 -- ---- a pick on a table that is long enough
 
