@@ -18,11 +18,12 @@ use Rattle.meaning.specs.Refusals.{number_of}
 use Rattle.meaning.specs.Each.{some_of}
 use Rattle.meaning.specs.Store.{Store, memory}
 use Rattle.meaning.specs.State.{State, most_commands, state_in}
-use Rattle.meaning.specs.Sizes.{store_wrong, sizes_wrong}
+use Rattle.meaning.specs.Sizes.{sizes_wrong}
 use Rattle.meaning.specs.Command.{finished, remaining, no_record}
-use Rattle.meaning.specs.Step.{step, stepped}
+use Rattle.meaning.specs.Step.{step}
+use Rattle.meaning.specs.Run.{advanced}
 use Rattle.meaning.specs.Pick.{bad_record, spoiled, waits, place_number, pick_number, step_at, picked, PickGives}
-use Rattle.meaning.proofs.Rows.{pass, stop, or_first, or_second, or_later, or_none, or-false}
+use Rattle.meaning.proofs.Rows.{pass, stop, or_first, or_second}
 use Rattle.meaning.proofs.Means.{Means, holds, fails, means_lt}
 use Rattle.meaning.proofs.Numbers.{sizes_long, sizes_store}
 use Rattle.meaning.proofs.Records.{unfinished_some}
@@ -73,17 +74,9 @@ module _ (d : Drives) (n p : ℕ) (s : Store) (t : List Record) where
   unfolding PickGives picked
   refused_gives k e h = (sym e, sym (pass (eqb (pick_number d n p whole) 0) _ _ (ne_eqb _ 0 (λ q. h (sym e ∙ q)))))
 
-  pub wrong_store : store_wrong d s ≡ true → pick_number d n p whole ≡ 1
-  unfolding pick_number sizes_wrong
-  wrong_store e = stop _ _ _ (or_first (store_wrong d s) _ e)
-
-  pub short_table : length t < most_commands → pick_number d n p whole ≡ 1
-  unfolding pick_number sizes_wrong
-  short_table h = stop _ _ _ (or_later (store_wrong d s) _ (lt-ltb (length t) most_commands h))
-
-  pub right_sizes : store_wrong d s ≡ false → most_commands ≤ length t → sizes_wrong d whole ≡ false
-  unfolding sizes_wrong
-  right_sizes e h = or_none _ _ e (le-ltb (length t) most_commands h)
+  pub wrong_sizes : sizes_wrong d whole ≡ true → pick_number d n p whole ≡ 1
+  unfolding pick_number
+  wrong_sizes e = stop _ _ _ e
 
   module _ (right : sizes_wrong d whole ≡ false) where
     pub too_many : most_commands < n → pick_number d n p whole ≡ 9
@@ -142,6 +135,6 @@ module _ (d : Drives) (n p : ℕ) (s : Store) (t : List Record) where
           (some, ready d s (get_or t p no_record) 1 (sizes_store d whole right) good some)
 
   -- one step is taken at the place
-  pub accepted_gives : pick_number d n p whole ≡ 0 → (u : Store) (t' : List Record) → u ≡ step d (get_or t p no_record) s → t' ≡ set t p (stepped (get_or t p no_record)) → PickGives d n p whole 0 (state_in u t')
-  unfolding PickGives picked step_at
+  pub accepted_gives : pick_number d n p whole ≡ 0 → (u : Store) (t' : List Record) → u ≡ step d (get_or t p no_record) s → t' ≡ set t p (advanced 1 (get_or t p no_record)) → PickGives d n p whole 0 (state_in u t')
+  unfolding PickGives picked step_at advanced
   accepted_gives e u t' eu et = (sym e, (λ j. record { table = et j; store = eu j }) ∙ sym (stop (eqb (pick_number d n p whole) 0) _ _ (eq-eqb _ 0 e)))

@@ -4,13 +4,11 @@ ghost use Rattle.meaning.specs.Refusals.{told};
 ghost use Rattle.meaning.specs.Lends.{store_of, SameLent};
 ghost use Rattle.meaning.specs.Drives.{drives_of};
 ghost use Rattle.meaning.specs.State.{state_in, most_commands};
-ghost use Rattle.meaning.specs.Sizes.{store_wrong};
 ghost use Rattle.meaning.specs.Command.{no_record};
 ghost use Rattle.meaning.specs.Pick.{PickGives};
 ghost use Rattle.board.specs.Sight.{place_seen, looked_over};
 
 use crate::{RECORDS, step, table};
-use chain::sizes;
 use command::{sound, touch};
 use meaning::lends::LentStore;
 use meaning::refusals::Refusal;
@@ -44,13 +42,6 @@ fn look_over(
     Ok(waits)
 }
 
-// Memory or an image of a wrong size, or a drive that cannot be.
-pub(crate) fn store_wrong(store: &LentStore<'_>) -> bool
-    ensures { result ≡ store_wrong (drives_of store.now.drives) (store_of store.now) }
-{
-    sizes::sizes_wrong(store.memory, store.disks())
-}
-
 // A pick: one step at its place, or nothing is changed.
 pub fn pick(
     store: &mut LentStore<'_>,
@@ -61,7 +52,7 @@ pub fn pick(
     ensures same { SameLent store.old store.new }
     ensures gives { PickGives (drives_of store.old.drives) commands place (state_in (store_of store.old) table.old) (told result) (state_in (store_of store.new) table.new) }
 {
-    if store_wrong(store) || table.len() < RECORDS {
+    if table::wrong_size(store, table) {
         return Err(Refusal::WrongSize);
     }
     if RECORDS < commands {

@@ -2,43 +2,38 @@
 use mathlib.Core.Path.{◌≡◌, ap, sym, ◌∙◌}
 use Prim.Native.Nat.{ℕ}
 use native.Mathlib.Omega.{arith}
-use mathlib.Core.Bool.{false, true}
+use mathlib.Core.Bool.{false}
 use mathlib.Core.List.{List}
 use lib.ListN.{get_or, set}
 use Rattle.std.proofs.lemmas.Result.{err_from_is_err_and}
-use borrow.Author.Rules.{rules}
 use Rattle.meaning.specs.declared.Record.{Record}
 use Rattle.meaning.specs.Store.{Store}
 use Rattle.meaning.specs.Drives.{Drives, drives_of}
 use Rattle.meaning.specs.State.{state_in}
 use Rattle.meaning.specs.Lends.{store_of}
 use Rattle.meaning.specs.Sizes.{sizes_wrong}
-use Rattle.meaning.specs.Command.{finished, no_record}
-use Rattle.meaning.specs.Step.{stepped, with_taken}
+use Rattle.meaning.specs.Command.{no_record}
 use Rattle.meaning.specs.Pick.{place_number, PickGives}
 use Rattle.meaning.proofs.Told.{number_not_0}
 use Rattle.meaning.proofs.Records.{unfinished_some}
 use Rattle.board.proofs.Moving.{one_step}
-use Rattle.board.proofs.Picking.{wrong_store, short_table, right_sizes, too_many, look_refuses, look_accepts, room_here, refused_gives, accepted_gives, no_place, is_finished, has_to_wait, may_go, Sees}
+use Rattle.board.proofs.Picking.{wrong_sizes, too_many, look_refuses, look_accepts, room_here, refused_gives, accepted_gives, no_place, is_finished, has_to_wait, may_go, Sees}
 use Rattle.board.proofs.pick.pick.Goals as goal
-use Rattle.board.proofs.pick.pick.Goals.{In_ok-waits, then-store_wrong-via-then-store_wrong, then-store_wrong-via-else-store_wrong+then-table-lt-RECORDS}
+use Rattle.board.proofs.pick.pick.Goals.{In_ok-waits}
 
-pub returns-then-store_wrong-clause-gives : goal.returns-then-store_wrong-clause-gives
-returns-then-store_wrong-clause-gives c =
+pub returns-then-wrong_size-clause-gives : goal.returns-then-wrong_size-clause-gives
+returns-then-wrong_size-clause-gives c =
     let a = c.args in
     let d = drives_of a.store.now.drives in
     let s = store_of a.store.now in
-    elim c.then-store_wrong.branch [
-      | then-store_wrong-via-then-store_wrong w ↦ refused_gives d a.commands a.place s a.table.now 1 (wrong_store d a.commands a.place s a.table.now (sym c.store_wrong.ensures ∙ w.if-store_wrong.true)) (λ e. omega arith)
-      | then-store_wrong-via-else-store_wrong+then-table-lt-RECORDS w ↦ refused_gives d a.commands a.place s a.table.now 1 (short_table d a.commands a.place s a.table.now w.if-table-lt-RECORDS.true) (λ e. omega arith)
-    ]
+    refused_gives d a.commands a.place s a.table.now 1 (wrong_sizes d a.commands a.place s a.table.now (sym c.wrong_size.ensures.value ∙ c.if-wrong_size.true)) (λ e. omega arith)
 
 pub returns-then-commands-gt-RECORDS-clause-gives : goal.returns-then-commands-gt-RECORDS-clause-gives
 returns-then-commands-gt-RECORDS-clause-gives c =
     let a = c.args in
     let d = drives_of a.store.now.drives in
     let s = store_of a.store.now in
-    let right = right_sizes d a.commands a.place s a.table.now (sym c.store_wrong.ensures ∙ c.if-store_wrong.false) c.if-table-lt-RECORDS.false in
+    let right = sym c.wrong_size.ensures.value ∙ c.if-wrong_size.false in
     refused_gives d a.commands a.place s a.table.now 9 (too_many d a.commands a.place s a.table.now right c.if-commands-gt-RECORDS.true) (λ e. omega arith)
 
 pub returns-in_err-waits-clause-gives : goal.returns-in_err-waits-clause-gives
@@ -46,7 +41,7 @@ returns-in_err-waits-clause-gives c =
     let a = c.args in
     let d = drives_of a.store.now.drives in
     let s = store_of a.store.now in
-    let right = right_sizes d a.commands a.place s a.table.now (sym c.store_wrong.ensures ∙ c.if-store_wrong.false) c.if-table-lt-RECORDS.false in
+    let right = sym c.wrong_size.ensures.value ∙ c.if-wrong_size.false in
     let q = err_from_is_err_and c.from_residual.result c.from_residual.ensures.1 in
     let e = c.in_err-waits.field-0.0 in
     rw (q.1, q.2) (refused_gives d a.commands a.place s a.table.now _ (look_refuses d a.commands a.place s a.table.now right c.if-commands-gt-RECORDS.false e (sym c.look_over.ensures ∙ c.in_err-waits.was)) (number_not_0 e))
@@ -72,7 +67,7 @@ module _ (w : In_ok-waits) where
   r = get_or t p no_record
 
   right : sizes_wrong d (state_in s t) ≡ false
-  right = right_sizes d n p s t (sym w.store_wrong.ensures ∙ w.if-store_wrong.false) w.if-table-lt-RECORDS.false
+  right = sym w.wrong_size.ensures.value ∙ w.if-wrong_size.false
 
   sees : Sees d n p s t right w.if-commands-gt-RECORDS.false w.in_ok-waits.waits
   sees = look_accepts d n p s t right w.if-commands-gt-RECORDS.false w.in_ok-waits.waits (sym w.look_over.ensures ∙ w.in_ok-waits.was)
@@ -105,7 +100,6 @@ pub advance-requires : goal.advance-requires
 advance-requires c = unfinished_some (get_or c.args.table.now c.args.place no_record) (sym c.finished.ensures ∙ c.if-finished.false)
 
 pub returns-clause-gives : goal.returns-clause-gives
-unfolding stepped with_taken
 returns-clause-gives c =
     let w = (goal.at.returns-clause-gives c).In_ok-waits in
     let goes = may_go (t w) (n w) (p w) c.if-commands-place.false (sym c.finished.ensures ∙ c.if-finished.false) (sym ((sees w).waiting c.if-commands-place.false) ∙ c.if-waits.false) in
