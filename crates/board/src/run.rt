@@ -6,7 +6,6 @@ ghost use Rattle.meaning.specs.Each.{every_of, some_of};
 ghost use Rattle.meaning.specs.Lends.{store_of, SameLent};
 ghost use Rattle.meaning.specs.Drives.{drives_of};
 ghost use Rattle.meaning.specs.State.{state_in, most_commands};
-ghost use Rattle.meaning.specs.Sizes.{sizes_wrong};
 ghost use Rattle.meaning.specs.Command as command;
 ghost use Rattle.meaning.specs.Pick.{place_number};
 ghost use Rattle.meaning.specs.Refusals.{told};
@@ -17,8 +16,7 @@ ghost use Rattle.board.specs.Ready.{ReadyIn};
 ghost use Rattle.board.specs.Sight.{blocking};
 ghost use Rattle.board.specs.Watching.{no_watch, Watching};
 
-use crate::{RECORDS, step};
-use chain::sizes;
+use crate::{RECORDS, step, table};
 use command::touch::Footprint;
 use command::{sound, touch};
 use meaning::lends::LentStore;
@@ -34,13 +32,6 @@ pub struct Watch {
     pub searched: usize,
 }
 
-// Number 1: memory or an image of a wrong size, or a table that is too short.
-fn wrong_size(store: &LentStore<'_>, table: &[Record]) -> bool
-    ensures { result ≡ sizes_wrong (drives_of store.now.drives) (state_in (store_of store.now) table.now) }
-{
-    sizes::sizes_wrong(store.memory, store.disks()) || table.len() < RECORDS
-}
-
 // Numbers 1 and 9, which both runs test first. Where neither is given all footprints of the commands are known: the list of a command is
 // gone through once for both.
 fn opening(
@@ -51,7 +42,7 @@ fn opening(
     ensures number { told result ≡ run.run_number (drives_of store.now.drives) commands (state_in (store_of store.now) table.now) }
     ensures watching { IfOk result (λ watches. Watching commands table.now watches) }
 {
-    if wrong_size(store, table) {
+    if table::wrong_size(store, table) {
         return Err(Refusal::WrongSize);
     }
     if RECORDS < commands {
@@ -131,10 +122,9 @@ fn take_within(store: &mut LentStore<'_>, table: &mut [Record], place: usize, mo
     ensures record { table.new ≡ set table.old place (run.advanced result (get_or table.old place command.no_record)) }
     ensures moved { store_of store.new ≡ run.steps_done (drives_of store.old.drives) result (get_or table.old place command.no_record) (store_of store.old) }
 {
-    let r = table[place];
-    let n = most.min(u64::from(command::remaining(r))) as u32;
+    let n = most.min(u64::from(command::remaining(table[place]))) as u32;
     step::take_steps(store, &table[place], n);
-    table[place].taken = r.taken + n;
+    table::advance(&mut table[place], n);
     n
 }
 

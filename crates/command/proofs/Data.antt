@@ -37,7 +37,6 @@ use Rattle.command.specs.declared.touch.Footprint.{Footprint}
 use Rattle.command.specs.Footprints.{far, nearer, hull_with, hull_from, hull_of, data_hull, footprint_of}
 use Rattle.command.specs.Data.{bad_data, bad_move, bad_by, bad_in}
 use Rattle.command.specs.Look.{judged_as, looked_as, may_block}
-use Rattle.command.proofs.Moved.{moved_plain}
 
 -- ---- the hull of some ranges tells whether one of them lies outside memory, and how many bytes they have
 
@@ -70,10 +69,6 @@ outside_from n f h (x ∷ xs) =
 bytes_from : (h : Hull) (xs : List Range) → (hull_from h xs).bytes ≡ h.bytes + bytes_in xs
 bytes_from h [] = omega arith
 bytes_from h (x ∷ xs) = omega (arith, bytes_from (hull_with h x) xs)
-
--- the one range of a command without a list has as many bytes as its sectors
-pub plain_bytes : (r : Record) → transfers r ≡ true → r.ranges ≡ 0 → (data_hull r).bytes ≡ sector_bytes * r.count
-plain_bytes r moves e = ap (λ (xs : List Range). (hull_of xs).bytes) (moved_plain r moves e) ∙ zero-add (sector_bytes * r.count)
 
 by_hull : (n : ℕ) → n < far → (r : Record) → transfers r ≡ true
     → bad_data n r ≡ (ltb most_links r.ranges || (some_of (outside n) (data_bytes r) || not (eqb (bytes_in (data_bytes r)) (sector_bytes * r.count))))

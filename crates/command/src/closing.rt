@@ -1,21 +1,13 @@
 // The status bytes that a close posts, by the copied byte 0, the code, what would have fitted and the drive of the command's own unit (Step
 // 5 to 9).
-ghost use Rattle.std.specs.Prelude.{◌≡◌, [], ◌∷◌};
+ghost use Rattle.std.specs.Prelude.{◌≡◌};
 ghost use Rattle.meaning.specs.Drives.{drives_of};
 ghost use Rattle.meaning.specs.Step as step;
 
 use meaning::{Drive, LentDrives, Record};
 
-// Bytes 0 to 3 of an IOPB after its command's close.
-#[derive(Clone, Copy)]
-pub struct Status {
-    pub byte0: u8,
-    pub code: u8,
-    pub drive: u8,
-    pub internal: u8,
-}
-
 // Byte 0: the copied one with DONE set, and ERRS set exactly if the code is not 00.
+#[tactic(auto, unfolding(meaning::specs::Step::closing_byte0))]
 fn closing_byte0(r: Record) -> u8
     ensures { result ≡ step.closing_byte0 r }
 {
@@ -37,14 +29,15 @@ fn internal_status(r: Record) -> u8
     r.fitted
 }
 
-// What the close of a command posts.
-pub fn posted(l: LentDrives, r: Record) -> Status
-    ensures { (result.byte0 ∷ result.code ∷ result.drive ∷ result.internal ∷ []) ≡ step.closing (drives_of l) r }
+// What the close of a command posts: bytes 0 to 3 of its IOPB.
+#[tactic(auto, unfolding(meaning::specs::Step::closing))]
+pub fn posted(l: LentDrives, r: Record) -> [u8; 4]
+    ensures { result ≡ step.closing (drives_of l) r }
 {
-    Status {
-        byte0: closing_byte0(r),
-        code: r.code,
-        drive: drive_status(units::drive_of(l, r.unit)),
-        internal: internal_status(r),
-    }
+    [
+        closing_byte0(r),
+        r.code,
+        drive_status(units::drive_of(l, r.unit)),
+        internal_status(r),
+    ]
 }

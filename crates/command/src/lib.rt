@@ -3,44 +3,65 @@
 #![tactic(auto)]
 
 pub mod closing;
+mod hulled;
 pub mod sound;
 pub mod touch;
 
-ghost use Rattle.std.specs.Prelude.{◌≡◌, ◌+◌, ◌*◌};
-ghost use Rattle.meaning.specs.Code.{command_in};
+ghost use Rattle.std.specs.Prelude.{◌≡◌};
 ghost use Rattle.meaning.specs.Command as command;
+ghost use Rattle.command.specs.Kinds.{kind_of};
 
 use meaning::Record;
 
-// The code and the command as one number, which is the command's own exactly where the code is 00: one test of it decides both.
-fn kind(r: Record) -> u32
-    ensures { result ≡ 256 * r.code + command_in r.byte0 }
-{
-    256 * r.code as u32 + (r.byte0 % 16) as u32
+// The commands that move sectors, as byte 0 of an IOPB has them.
+const WRITE: u8 = 1;
+
+const READ: u8 = 2;
+
+// What a command moves: a transfer with code 00 reads sectors, or writes them.
+#[derive(Clone, Copy, PartialEq, Eq)]
+enum Kind {
+    Reads,
+    Writes,
+    MovesNothing,
+}
+
+impl Kind {
+    // By the code and the copied byte 0 of a record.
+    fn of(r: Record) -> Kind
+        ensures { result ≡ kind_of r }
+    {
+        match (r.code, r.byte0 % 16) {
+            (0, READ) => Kind::Reads,
+            (0, WRITE) => Kind::Writes,
+            _ => Kind::MovesNothing,
+        }
+    }
 }
 
 // A Read Data with code 00.
 pub fn reads(r: Record) -> bool
     ensures { result ≡ command.reads r }
 {
-    kind(r) == 2
+    Kind::of(r) == Kind::Reads
 }
 
 // A Write Data with code 00.
 pub fn writes(r: Record) -> bool
     ensures { result ≡ command.writes r }
 {
-    kind(r) == 1
+    Kind::of(r) == Kind::Writes
 }
 
 // A transfer with code 00.
 pub fn transfers(r: Record) -> bool
     ensures { result ≡ command.transfers r }
 {
-    reads(r) | writes(r)
+    Kind::of(r) != Kind::MovesNothing
 }
 
 // How many steps a command has: a transfer with code 00 its count, every other one.
+#[tactic(auto, unfolding(meaning::specs::Command::steps_of))]
 pub fn steps_of(r: Record) -> u32
     ensures { result ≡ command.steps_of r }
 {
@@ -48,6 +69,7 @@ pub fn steps_of(r: Record) -> u32
 }
 
 // No step of the command is left.
+#[tactic(auto, unfolding(meaning::specs::Command::finished))]
 pub fn finished(r: Record) -> bool
     ensures { result ≡ command.finished r }
 {
@@ -56,6 +78,7 @@ pub fn finished(r: Record) -> bool
 }
 
 // How many steps of the command are left.
+#[tactic(auto, unfolding(meaning::specs::Command::remaining))]
 pub fn remaining(r: Record) -> u32
     ensures { result ≡ command.remaining r }
 {

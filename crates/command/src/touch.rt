@@ -1,14 +1,16 @@
 // Whether two commands conflict. What a command touches does not change with its steps (Touch 5), so what can be said of it in few numbers is
 // worked out once, as its footprint: its status bytes, its sectors, and the hull of its data, from its first byte in memory to its last.
 // Commands whose footprints do not meet have no conflict; where they meet, the ranges themselves are tested, pair by pair.
-ghost use Rattle.std.specs.Prelude.{◌≡◌, ◌+◌, ◌*◌, ◌≤◌, max, min, [], map, take};
+ghost use Rattle.std.specs.Prelude.{◌≡◌, ◌+◌, ◌*◌, ◌≤◌, ◌&&◌, ◌||◌, [], map, take, length};
 ghost use Rattle.meaning.specs.Each.{some_of};
 ghost use Rattle.meaning.specs.Sectors.{sector_bytes};
 ghost use Rattle.meaning.specs.Ranges.{bytes, sectors_of, overlap, meet};
-ghost use Rattle.meaning.specs.Links.{range_of};
+ghost use Rattle.meaning.specs.Links.{most_links, range_of};
+ghost use Rattle.meaning.specs.Command.{writes, links_of};
 ghost use Rattle.meaning.specs.Touch as touch;
 ghost use Rattle.command.specs.Footprints.{nearer, most_bytes, most_added, hull_with, hull_of, moved_by, moved_data, data_hull, no_footprint, footprint_of, hulls_meet, status_meets, data_meets, sectors_meet, footprints_meet, data_conflicts, sectors_conflict};
 
+use crate::hulled::Hulled;
 use chain::{links, ranges};
 use meaning::{Link, Record};
 
@@ -20,7 +22,7 @@ const STATUS_BYTES: u32 = 4;
 const FAR: u32 = 2_147_483_648;
 
 // From the first byte of some ranges to the first one past all of them.
-#[derive(Clone, Copy)]
+#[derive(Clone, Copy, Default)]
 pub struct Hull {
     pub low: u32,
     pub high: u32,
@@ -29,7 +31,7 @@ pub struct Hull {
 }
 
 // What a command touches from its first step to its close, and how many steps it has.
-#[derive(Clone, Copy)]
+#[derive(Clone, Copy, Default)]
 pub struct Footprint {
     // of its data
     pub hull: Hull,
@@ -42,39 +44,109 @@ pub struct Footprint {
     // the unit that they are of
     pub unit: u8,
     // whether it reads sectors, or writes them
+    // stays: two footprints are asked one of these with a plain `or`, which by a Kind would be two comparisons
     pub reads: bool,
     pub writes: bool,
 }
 
-// The smaller of two numbers.
-fn smaller(a: u32, b: u32) -> u32
-    ensures { result ≡ min a b }
-{
-    if a < b { a } else { b }
+// So many bytes of memory, one after another.
+#[derive(Clone, Copy)]
+struct Bytes {
+    from: u32,
+    many: u32,
 }
 
-// The larger of two numbers.
-fn larger(a: u32, b: u32) -> u32
-    ensures { result ≡ max a b }
-{
-    if a < b { b } else { a }
+// The sectors that a command moves, one after another on its own unit, and whether it writes them.
+#[derive(Clone, Copy)]
+struct Sectors {
+    unit: u8,
+    first: u32,
+    many: u32,
+    written: bool,
+}
+
+impl Bytes {
+    // They have one in common with others.
+    fn meet(self, others: Bytes) -> bool
+        ensures { result ≡ overlap (bytes self.from self.many) (bytes others.from others.many) }
+    {
+        ranges::crosses(self.from, self.many, others.from, others.many)
+    }
+}
+
+impl From<Link> for Bytes {
+    // The range of an element.
+    fn from(x: Link) -> Bytes
+        ensures value { result ≡ record { from = x.address; many = x.length } }
+        ensures within { result.many ≤ 65_535 }
+    {
+        Bytes {
+            from: x.address,
+            many: x.length as u32,
+        }
+    }
+}
+
+impl Sectors {
+    // Those of a command: none where it moves none.
+    fn of(r: &Record) -> Sectors
+        ensures { result ≡ record { unit = r.now.unit; first = r.now.sector; many = moved_by r.now; written = writes r.now } }
+    {
+        Sectors {
+            unit: r.unit,
+            first: r.sector,
+            many: moved(r),
+            written: crate::writes(*r),
+        }
+    }
+
+    // They have one in common with those of another command, and one of the two writes it. Sectors of different units never have.
+    fn meet(self, others: Sectors) -> bool
+        ensures { result ≡ ((self.written || others.written) && overlap (sectors_of self.unit self.first self.many) (sectors_of others.unit others.first others.many)) }
+    {
+        (self.written || others.written)
+            && self.unit == others.unit
+            && ranges::crosses(self.first, self.many, others.first, others.many)
+    }
 }
 
 // Where a range begins that begins at a, as a hull counts it.
 fn begins(a: u32) -> u32
     ensures { result ≡ nearer a }
 {
-    smaller(a, FAR)
+    a.min(FAR)
 }
 
-// The hull of nothing: it begins past all ranges.
-fn no_hull() -> Hull
-    ensures { result ≡ hull_of [] }
-{
-    Hull {
-        low: FAR,
-        high: 0,
-        bytes: 0,
+impl Hull {
+    // The hull of nothing: it begins past all ranges, so its zeros would not do.
+    fn of_nothing() -> Hull
+        ensures { result ≡ hull_of [] }
+    {
+        Hull {
+            low: FAR,
+            high: 0,
+            bytes: 0,
+        }
+    }
+
+    // With some bytes more within it.
+    fn with(self, more: Bytes) -> Hull
+        requires { (self.bytes ≤ most_bytes) × (more.many ≤ most_added) }
+        ensures { result ≡ hull_with self (bytes more.from more.many) }
+    {
+        let from = begins(more.from);
+        Hull {
+            low: self.low.min(from),
+            high: self.high.max(from + more.many),
+            bytes: self.bytes + more.many,
+        }
+    }
+
+    // They have a byte in common.
+    fn meets(self, other: Hull) -> bool
+        ensures { result ≡ hulls_meet self other }
+    {
+        self.low.max(other.low) < self.high.min(other.high)
     }
 }
 
@@ -82,104 +154,69 @@ fn no_hull() -> Hull
 pub fn no_footprint() -> Footprint
     ensures { result ≡ no_footprint }
 {
-    Footprint {
-        hull: Hull {
-            low: 0,
-            high: 0,
-            bytes: 0,
-        },
-        status: 0,
-        sector: 0,
-        sectors: 0,
-        steps: 0,
-        unit: 0,
-        reads: false,
-        writes: false,
-    }
+    Footprint::default()
 }
 
-// A hull with n bytes from a on within it too.
-fn hull_with(h: Hull, a: u32, n: u32) -> Hull
-    requires { (h.bytes ≤ most_bytes) × (n ≤ most_added) }
-    ensures { result ≡ hull_with h (bytes a n) }
+// The hull of the ranges of a list.
+fn list_hull(list: &[Link]) -> Hull
+    requires { length list.now ≤ most_links }
+    ensures { result ≡ hull_of (map range_of list.now) }
 {
-    let from = begins(a);
-    Hull {
-        low: smaller(h.low, from),
-        high: larger(h.high, from + n),
-        bytes: h.bytes + n,
-    }
-}
-
-// A hull with the range of an element within it too.
-fn hull_with_link(h: Hull, x: Link) -> Hull
-    requires { h.bytes ≤ most_bytes }
-    ensures value { result ≡ hull_with h (range_of x) }
-    ensures within { result.bytes ≤ h.bytes + 65_535 }
-{
-    hull_with(h, x.address, x.length as u32)
-}
-
-// The hull of the first n ranges of a list.
-fn list_hull(list: [Link; 32], n: u16) -> Hull
-    ensures { result ≡ hull_of (map range_of (take n list)) }
-{
-    let last = links::held(n);
-    let mut h = no_hull();
-    let mut k = 0;
-    while k < last {
-        h = hull_with_link(h, list[k]);
-        k += 1;
+    let mut h = Hull::of_nothing();
+    for x in list {
+        h = h.with(Bytes::from(*x));
     }
     h
 }
 
-// How many bytes a command without a list moves.
-fn plain_bytes(r: Record) -> u32
-    ensures { result ≡ sector_bytes * r.count }
+// The first n ranges of a list.
+fn first(list: &[Link; 32], n: u16) -> &[Link]
+    ensures value { result.now ≡ take n list.now }
+    ensures few { length result.now ≤ most_links }
 {
-    drive::SECTOR_BYTES as u32 * r.count as u32
+    &list[..links::held(n)]
+}
+
+// The ranges of a command that has a list.
+fn links_of(r: &Record) -> &[Link]
+    ensures value { result.now ≡ links_of r.now }
+    ensures few { length result.now ≤ most_links }
+{
+    first(&r.list, r.ranges)
+}
+
+// The bytes that a command without a list moves.
+fn plain_data(r: &Record) -> Bytes
+    ensures value { result ≡ record { from = r.now.address; many = sector_bytes * r.now.count } }
+    ensures within { result.many ≤ most_added }
+{
+    Bytes {
+        from: r.address,
+        many: drive::SECTOR_BYTES as u32 * r.count as u32,
+    }
 }
 
 // The hull of a command's data; of nothing where it moves none.
-pub(crate) fn data_hull(r: Record) -> Hull
-    ensures { result ≡ data_hull r }
+pub(crate) fn data_hull(r: &Record) -> Hull
+    ensures { result ≡ data_hull r.now }
 {
-    if !crate::transfers(r) {
-        return no_hull();
+    if !crate::transfers(*r) {
+        return Hull::of_nothing();
     }
     if r.ranges == 0 {
-        return hull_with(no_hull(), r.address, plain_bytes(r));
+        return Hull::of_nothing().with(plain_data(r));
     }
-    let list = r.list;
-    list_hull(list, r.ranges)
+    list_hull(links_of(r))
 }
 
 // How many sectors a command moves: a transfer with code 00 its count, every other none.
-fn moved(r: Record) -> u32
-    ensures { result ≡ moved_by r }
+pub(crate) fn moved(r: &Record) -> u32
+    ensures { result ≡ moved_by r.now }
 {
-    if crate::transfers(r) {
+    if crate::transfers(*r) {
         r.count as u32
     } else {
         0
-    }
-}
-
-// The footprint of a command, by the hull of its data.
-pub(crate) fn footprint_with(r: Record, hull: Hull) -> Footprint
-    requires { hull ≡ data_hull r }
-    ensures { result ≡ footprint_of r }
-{
-    Footprint {
-        hull,
-        status: r.iopb,
-        sector: r.sector,
-        sectors: moved(r),
-        steps: crate::steps_of(r),
-        unit: r.unit,
-        reads: crate::reads(r),
-        writes: crate::writes(r),
     }
 }
 
@@ -187,184 +224,122 @@ pub(crate) fn footprint_with(r: Record, hull: Hull) -> Footprint
 pub fn footprint_of(r: Record) -> Footprint
     ensures { result ≡ footprint_of r }
 {
-    footprint_with(r, data_hull(r))
+    Hulled::of(&r).footprint()
 }
 
-// The hulls have a byte in common.
-fn hulls_meet(f: Hull, g: Hull) -> bool
-    ensures { result ≡ hulls_meet f g }
-{
-    larger(f.low, g.low) < smaller(f.high, g.high)
-}
-
-// The status bytes of the one have a byte in common with the hull of the other. Mostly they end before it begins, so this is asked first.
-fn status_meets(f: Footprint, g: Footprint) -> bool
-    ensures { result ≡ status_meets f g }
-{
-    let from = begins(f.status);
-    if from + STATUS_BYTES <= g.hull.low {
-        return false;
+impl Footprint {
+    // The status bytes of the one have a byte in common with the hull of the other. Mostly they end before it begins, so this is asked first.
+    fn status_meets(self, other: Footprint) -> bool
+        ensures { result ≡ status_meets self other }
+    {
+        let from = begins(self.status);
+        if from + STATUS_BYTES <= other.hull.low {
+            return false;
+        }
+        from.max(other.hull.low) < (from + STATUS_BYTES).min(other.hull.high)
     }
-    larger(from, g.hull.low) < smaller(from + STATUS_BYTES, g.hull.high)
-}
 
-// n sectors of a unit from a on have one in common with m sectors of another unit, or the same, from b on. Sectors of different units never
-// have.
-fn sectors_cross(unit: u8, a: u32, n: u32, other: u8, b: u32, m: u32) -> bool
-    ensures { result ≡ overlap (sectors_of unit a n) (sectors_of other b m) }
-{
-    if unit != other {
-        return false;
+    // The hulls of both have a byte in common, and one of them writes data: it reads sectors.
+    fn data_meets(self, other: Footprint) -> bool
+        ensures { result ≡ data_meets self other }
+    {
+        (self.reads || other.reads) && self.hull.meets(other.hull)
     }
-    ranges::crosses(a, n, b, m)
-}
 
-// The sectors of both have one in common, and one of them writes it.
-fn sectors_meet(f: Footprint, g: Footprint) -> bool
-    ensures { result ≡ sectors_meet f g }
-{
-    if f.writes | g.writes {
-        return sectors_cross(f.unit, f.sector, f.sectors, g.unit, g.sector, g.sectors);
+    // Its sectors.
+    fn moved(self) -> Sectors
+        ensures { result ≡ record { unit = self.unit; first = self.sector; many = self.sectors; written = self.writes } }
+    {
+        Sectors {
+            unit: self.unit,
+            first: self.sector,
+            many: self.sectors,
+            written: self.writes,
+        }
     }
-    false
-}
-
-// The hulls of both have a byte in common, and one of them writes data: it reads sectors.
-fn data_meets(f: Footprint, g: Footprint) -> bool
-    ensures { result ≡ data_meets f g }
-{
-    if f.reads | g.reads {
-        return hulls_meet(f.hull, g.hull);
-    }
-    false
 }
 
 // Two commands with these footprints may conflict: a close writes status bytes, a Read writes its data, a Write its sectors.
+#[tactic(auto, unfolding(crate::specs::Footprints::footprints_meet))]
 pub fn footprints_meet(f: Footprint, g: Footprint) -> bool
     ensures { result ≡ footprints_meet f g }
 {
-    if ranges::crosses(f.status, STATUS_BYTES, g.status, STATUS_BYTES) {
-        return true;
-    }
-    if status_meets(f, g) {
-        return true;
-    }
-    if status_meets(g, f) {
-        return true;
-    }
-    if data_meets(f, g) {
-        return true;
-    }
-    sectors_meet(f, g)
+    ranges::crosses(f.status, STATUS_BYTES, g.status, STATUS_BYTES)
+        || f.status_meets(g)
+        || g.status_meets(f)
+        || f.data_meets(g)
+        || f.moved().meet(g.moved())
 }
 
-// n bytes from a on have one in common with the range of an element.
-fn link_meets(x: Link, a: u32, n: u32) -> bool
-    ensures { result ≡ overlap (bytes a n) (range_of x) }
+// The status bytes of a command.
+fn status(r: &Record) -> Bytes
+    ensures { result ≡ record { from = r.now.iopb; many = 4 } }
 {
-    ranges::crosses(a, n, x.address, x.length as u32)
-}
-
-// n bytes from a on have one in common with some of the first m ranges of a list.
-fn list_meets(list: [Link; 32], m: u16, a: u32, n: u32) -> bool
-    ensures { result ≡ some_of (λ x. overlap (bytes a n) (range_of x)) (take m list) }
-{
-    let last = links::held(m);
-    let mut k = 0;
-    while k < last {
-        if link_meets(list[k], a, n) {
-            return true;
-        }
-        k += 1;
+    Bytes {
+        from: r.iopb,
+        many: STATUS_BYTES,
     }
-    false
 }
 
-// n bytes from a on have one in common with the data of a command.
-fn meets_data(r: Record, a: u32, n: u32) -> bool
-    ensures { result ≡ some_of (overlap (bytes a n)) (moved_data r) }
+// Some bytes have one in common with some range of a list.
+fn list_meets(list: &[Link], these: Bytes) -> bool
+    ensures { result ≡ some_of (λ x. overlap (bytes these.from these.many) (range_of x)) list.now }
 {
-    if !crate::transfers(r) {
+    list.iter().any(|x| these.meet(Bytes::from(*x)))
+}
+
+// Some bytes have one in common with the data of a command.
+#[tactic(auto, using(meaning::proofs::Tests::some_map))]
+fn meet_data(these: Bytes, r: &Record) -> bool
+    ensures { result ≡ some_of (overlap (bytes these.from these.many)) (moved_data r.now) }
+{
+    if !crate::transfers(*r) {
         return false;
     }
     if r.ranges == 0 {
-        return ranges::crosses(a, n, r.address, plain_bytes(r));
+        return these.meet(plain_data(r));
     }
-    let list = r.list;
-    list_meets(list, r.ranges, a, n)
+    list_meets(links_of(r), these)
 }
 
-// The range of an element has a byte in common with the data of a command.
-fn link_meets_data(r: Record, x: Link) -> bool
-    ensures { result ≡ some_of (overlap (range_of x)) (moved_data r) }
+// Some range of a list has a byte in common with the data of a command.
+// stays: it and `data_shared` are no twins of the two above but by their shape; one function for both would take the test as a closure, and
+// its contract would speak of that closure's calls, which is longer than these lines.
+fn list_meets_data(list: &[Link], r: &Record) -> bool
+    ensures { result ≡ some_of (λ x. some_of (overlap (range_of x)) (moved_data r.now)) list.now }
 {
-    meets_data(r, x.address, x.length as u32)
-}
-
-// Some of the first n ranges of a list have a byte in common with the data of a command.
-fn list_meets_data(list: [Link; 32], n: u16, r: Record) -> bool
-    ensures { result ≡ some_of (λ x. some_of (overlap (range_of x)) (moved_data r)) (take n list) }
-{
-    let last = links::held(n);
-    let mut k = 0;
-    while k < last {
-        if link_meets_data(r, list[k]) {
-            return true;
-        }
-        k += 1;
-    }
-    false
+    list.iter().any(|x| meet_data(Bytes::from(*x), r))
 }
 
 // The data of two commands has a byte in common.
-fn data_shared(r: Record, s: Record) -> bool
-    ensures { result ≡ meet (moved_data r) (moved_data s) }
+#[tactic(auto, using(meaning::proofs::Tests::some_map))]
+fn data_shared(r: &Record, s: &Record) -> bool
+    ensures { result ≡ meet (moved_data r.now) (moved_data s.now) }
 {
-    if !crate::transfers(r) {
+    if !crate::transfers(*r) {
         return false;
     }
     if r.ranges == 0 {
-        return meets_data(s, r.address, plain_bytes(r));
+        return meet_data(plain_data(r), s);
     }
-    let list = r.list;
-    list_meets_data(list, r.ranges, s)
+    list_meets_data(links_of(r), s)
 }
 
 // Their data has a byte in common, and one of them writes it: it reads sectors.
-fn data_conflicts(r: Record, s: Record) -> bool
-    ensures { result ≡ data_conflicts r s }
+fn data_conflicts(r: &Record, s: &Record) -> bool
+    ensures { result ≡ data_conflicts r.now s.now }
 {
-    if crate::reads(r) | crate::reads(s) {
-        return data_shared(r, s);
-    }
-    false
-}
-
-// Their sectors have one in common, and one of them writes it.
-fn sectors_conflict(r: Record, s: Record) -> bool
-    ensures { result ≡ sectors_conflict r s }
-{
-    if crate::writes(r) | crate::writes(s) {
-        return sectors_cross(r.unit, r.sector, moved(r), s.unit, s.sector, moved(s));
-    }
-    false
+    (crate::reads(*r) || crate::reads(*s)) && data_shared(r, s)
 }
 
 // Two commands conflict, by their ranges pair by pair.
+#[tactic(auto, using(crate::proofs::Touching::conflict_is), unfolding(crate::proofs::Touching::five))]
 pub fn ranges_conflict(r: Record, s: Record) -> bool
     ensures { result ≡ touch.conflict r s }
 {
-    if ranges::crosses(r.iopb, STATUS_BYTES, s.iopb, STATUS_BYTES) {
-        return true;
-    }
-    if meets_data(s, r.iopb, STATUS_BYTES) {
-        return true;
-    }
-    if meets_data(r, s.iopb, STATUS_BYTES) {
-        return true;
-    }
-    if data_conflicts(r, s) {
-        return true;
-    }
-    sectors_conflict(r, s)
+    status(&r).meet(status(&s))
+        || meet_data(status(&r), &s)
+        || meet_data(status(&s), &r)
+        || data_conflicts(&r, &s)
+        || Sectors::of(&r).meet(Sectors::of(&s))
 }

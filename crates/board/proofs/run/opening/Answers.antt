@@ -27,11 +27,11 @@ use Rattle.board.proofs.run.opening.Goals as goal
 use Rattle.board.proofs.run.opening.Goals.{Else-wrong_size, Else-commands-gt-RECORDS, After-judge-judged, After-loop-place}
 
 right : (c : Else-wrong_size) → let a = c.args in sizes_wrong (drives_of a.store.now.drives) (state_in (store_of a.store.now) a.table.now) ≡ false
-right c = sym c.wrong_size.ensures ∙ c.if-wrong_size.false
+right c = sym c.wrong_size.ensures.value ∙ c.if-wrong_size.false
 
 pub returns-then-wrong_size-clause-number : goal.returns-then-wrong_size-clause-number
 returns-then-wrong_size-clause-number c = let a = c.args in
-    sym (wrong_sizes (drives_of a.store.now.drives) a.commands (store_of a.store.now) a.table.now (sym c.wrong_size.ensures ∙ c.if-wrong_size.true))
+    sym (wrong_sizes (drives_of a.store.now.drives) a.commands (store_of a.store.now) a.table.now (sym c.wrong_size.ensures.value ∙ c.if-wrong_size.true))
 
 pub returns-then-commands-gt-RECORDS-clause-number : goal.returns-then-commands-gt-RECORDS-clause-number
 returns-then-commands-gt-RECORDS-clause-number c = let a = c.args in
