@@ -1,191 +1,205 @@
 -- The loop of a run by picks: what the whole list comes to is what the picks that are left come to from here. One law for an accepted
--- pick, one for a refused one, and what is known at the end.
+-- pick, one for a refused one, and one for picks in a row at one place: where the first may go, so may all that follow as far as the command
+-- has steps left, and where it has to be passed over, so have all.
 use mathlib.Core.Path.{◌≡◌, refl, sym, ap, ◌∙◌, subst}
-use Prim.Native.Nat.{ℕ, ◌+◌, ◌≤◌, ◌<◌}
-use native.Mathlib.Nat.{zero-add}
+use Prim.Native.Nat.{ℕ, zero, suc, ◌+◌, ◌-◌, ◌≤◌, ◌<◌, min}
+use native.Mathlib.Nat.{add-zero}
 use native.Mathlib.Numerals.{add-one}
 use native.Mathlib.Omega.{arith}
-use mathlib.Core.Bool.{Bool}
-use mathlib.Core.List.{List}
-use lib.ListN.{length, get_or, drop, set, replicate, length-set, drop_of_length-le}
-use lib.Seq.{drop-cons}
+use mathlib.Core.Bool.{Bool, true, false}
+use mathlib.Core.List.{List, [], ◌∷◌, ◌++◌}
+use lib.ListN.{length, get_or, set, take, get_or-append}
+use lib.Seq.{set-get_or, set-set, get_or-set_same}
 use lib.Dec.{eqb}
-use borrow.Author.Tests.{eq-eqb, ne_eqb}
+use borrow.Author.Tests.{eq-eqb, ne_eqb, eqb-true}
+use denote.Ref.{Bor}
+use denote.Param.Members.{Mut}
+use Rattle.std.specs.List.{AllAdjacentBelow}
+use Rattle.std.specs.Iterator.{Yields}
+use Rattle.std.specs.Fn.{ComputesOnPairs}
+use Rattle.std.specs.Slice.Iter.{chunk_by_steps, chunk_by_callee}
+use Rattle.std.specs.declared.slice.ChunkBy.{ChunkBy}
 use Rattle.meaning.specs.Drives.{Drives}
 use Rattle.meaning.specs.declared.Record.{Record}
+use Rattle.meaning.specs.Each.{some_of}
 use Rattle.meaning.specs.Store.{Store, memory, disk}
 use Rattle.meaning.specs.State.{State, state_in, most_commands}
-use Rattle.meaning.specs.Command.{remaining, no_record}
-use Rattle.meaning.specs.Step.{step, with_taken, stepped}
-use Rattle.meaning.specs.Pick.{bad_record, place_number, pick_number, step_at}
-use Rattle.meaning.specs.Run.{Tally, one_pick, picks_from, by_picks, steps_left, all_finished, run_number}
+use Rattle.meaning.specs.Command.{finished, remaining, no_record}
+use Rattle.meaning.specs.Step.{step, stepped}
+use Rattle.meaning.specs.Pick.{bad_record, waits, place_number, pick_number, step_at}
+use Rattle.meaning.specs.Run.{Tally, one_pick, picks_from, by_picks, advanced, steps_done, run_number}
 use Rattle.meaning.proofs.Rows.{pass, stop}
-use Rattle.meaning.proofs.Means.{Means, holds, fails, means_eq}
-use Rattle.meaning.proofs.Numbers.{Passed, run_passed, passed_place, place_free, none_bad, store_right, most_32}
-use Rattle.meaning.proofs.Spaces.{AsLong}
-use Rattle.meaning.proofs.Records.{unfinished_some}
-use Rattle.meaning.proofs.Counts.{none_left, left_step}
-use Rattle.meaning.proofs.Still.{step_keeps_lengths, passed_step}
-use Rattle.board.specs.Changes.{table_with, taken_of}
-use Rattle.board.specs.Ready.{Ready}
+use Rattle.meaning.proofs.Means.{Means, holds, fails, means_lt}
+use Rattle.meaning.proofs.Numbers.{Passed, Free, run_passed, passed_place, place_free, free_place, none_bad, store_right, in_table}
+use Rattle.meaning.proofs.Records.{some_unfinished, unfinished_some, remaining_stepped}
+use Rattle.meaning.proofs.Still.{passed_step}
+use Rattle.board.specs.declared.run.Watch.{Watch}
+use Rattle.board.specs.Ready.{ReadyIn}
+use Rattle.board.specs.Sight.{blocking}
+use Rattle.board.specs.Watching.{Watching}
 use Rattle.board.proofs.Moving.{ready}
-use Rattle.board.proofs.Searching.{Searched, searched_none, searched_still}
-use Rattle.board.proofs.Taken.{with_next, with_with, length_with, at_with, set_with, own_table}
+use Rattle.board.proofs.Searching.{some_here, waits_still, watching_still}
+use Rattle.board.proofs.Picking.{has_to_wait, may_go}
 use Rattle.board.proofs.Runs.{tally}
 
--- k picks of ps are done, from the store s₀ and the table t; s and `taken` are the store and the steps taken now
-pub record PicksLeft (d : Drives) (n : ℕ) (ps : List ℕ) (s₀ : Store) (t : List Record) (s : Store) (taken searched : List ℕ) (steps refused k : ℕ) : Type 0 where
-  pub most : k ≤ length ps
-  pub counted : steps + refused ≡ k
-  pub as_long : AsLong s s₀
-  pub full : length t ≡ most_commands
-  pub long : length taken ≡ most_commands
-  pub passed : Passed d n (state_in s (table_with taken t))
-  pub search : Searched (table_with taken t) searched
-  pub over : steps + steps_left (table_with taken t) n ≡ steps_left t n
-  pub left : by_picks d n ps (state_in s₀ t) ≡ picks_from d n (drop k ps) (tally steps refused (state_in s (table_with taken t)))
+-- a search that has come to k decides whether a command that is not finished may take a step
+pub search_decides : (t : List Record) (n p k : ℕ) → p < n → p < length t → finished (get_or t p no_record) ≡ false → k ≤ p → some_of (blocking (get_or t p no_record)) (take k t) ≡ false
+    → (k < p → blocking (get_or t p no_record) (get_or t k no_record) ≡ true) → eqb k p ≡ eqb (place_number t n p) 0
+unfolding waits
+search_decides t n p k in_use inside open-yet l clear stopped = go (means_lt k p)
+  where
+    go : {b : Bool} → Means (k < p) b → eqb k p ≡ eqb (place_number t n p) 0
+    go (holds h) =
+        ne_eqb k p (λ e. omega (arith, e, h))
+        ∙ ap (λ (x : ℕ). eqb x 0) (sym (has_to_wait t n p in_use open-yet (some_here no_record (blocking (get_or t p no_record)) t k p h (omega arith) (stopped h))))
+    go (fails h) =
+        let e : k ≡ p = omega arith in
+        eq-eqb k p e ∙ ap (λ (x : ℕ). eqb x 0) (sym (may_go t n p in_use open-yet (ap (λ (x : ℕ). some_of (blocking (get_or t p no_record)) (take x t)) (sym e) ∙ clear)))
 
-pub picks_begin : (d : Drives) (n : ℕ) (ps : List ℕ) (s : Store) (t : List Record) (taken : List ℕ) → length t ≡ most_commands → length taken ≡ most_commands → taken ≡ taken_of t
-    → run_number d n (state_in s t) ≡ 0 → PicksLeft d n ps s t s taken (replicate 32 0) 0 0 0
-unfolding by_picks
-picks_begin d n ps s t taken h l e z =
-    let same : table_with taken t ≡ t = ap (λ (ns : List ℕ). table_with ns t) e ∙ own_table t in
-    record {
-      most = omega arith;
-      counted = omega arith;
-      as_long = λ p. refl;
-      full = h;
-      long = l;
-      passed = subst (λ (x : List Record). Passed d n (state_in s x)) (sym same) (run_passed d n (state_in s t) z);
-      search = searched_none (table_with taken t);
-      over = zero-add (steps_left (table_with taken t) n) ∙ ap (λ (x : List Record). steps_left x n) same;
-      left = ap (λ (x : List Record). picks_from d n ps (tally 0 0 (state_in s x))) (sym same);
-    }
+-- the next picks whose neighbours are equal name one place
+one_place : (x rest : List ℕ) → AllAdjacentBelow (λ y z. eqb y z ≡ true) (x ++ rest) (length x) → (k : ℕ) → k < length x → get_or x k 0 ≡ get_or x 0 0
+one_place x rest adjacent zero h = refl
+one_place x rest adjacent (suc k) h =
+    let next = eqb-true (get_or (x ++ rest) k 0) (get_or (x ++ rest) (k + 1) 0) (adjacent k 0 (omega arith)) in
+    ap (λ (j : ℕ). get_or x j 0) (sym (add-one k))
+    ∙ sym (get_or-append x rest 0 (k + 1) (omega arith))
+    ∙ sym next
+    ∙ get_or-append x rest 0 k (omega arith)
+    ∙ one_place x rest adjacent k (omega arith)
 
--- the first of the picks that are left
-next_pick : (d : Drives) (n k : ℕ) (ps : List ℕ) (y : Tally) → k < length ps → picks_from d n (drop k ps) y ≡ picks_from d n (drop (k + 1) ps) (one_pick d n (get_or ps k 0) y)
-unfolding picks_from
-next_pick d n k ps y h =
-    ap (λ (qs : List ℕ). picks_from d n qs y) (drop-cons ps k 0 h) ∙ ap (λ (j : ℕ). picks_from d n (drop j ps) (one_pick d n (get_or ps k 0) y)) (sym (add-one k))
+-- `rest` are left of the picks ps, from the store s₀ and the table t₀ on; s and t are store and table now
+pub record PicksLeft (d : Drives) (n : ℕ) (ps : List ℕ) (s₀ : Store) (t₀ : List Record) (s : Store) (t : List Record) (ws : List Watch) (steps : ℕ) (rest : List ℕ) : Type 0 where
+  pub refused : ℕ
+  pub counted : steps + refused + length rest ≡ length ps
+  pub passed : Passed d n (state_in s t)
+  pub watching : Watching n t ws
+  pub left : by_picks d n ps (state_in s₀ t₀) ≡ picks_from d n rest (tally steps refused (state_in s t))
 
-module _ (d : Drives) (n : ℕ) (ps : List ℕ) (s₀ : Store) (t : List Record) (s : Store) (taken searched : List ℕ) (steps refused k : ℕ)
-    (w : PicksLeft d n ps s₀ t s taken searched steps refused k) where
-  abbrev place : ℕ
-  place = get_or ps k 0
-
-  -- the table and the state now
-  abbrev now_table : List Record
-  now_table = table_with taken t
-
-  abbrev now_state : State
-  now_state = state_in s now_table
-
-  pub in_use_few : n ≤ most_commands
-  in_use_few = most_32 d n now_state w.passed
-
-  -- the record at a place, as the code puts it together
-  pub at_place : (p : ℕ) → p < most_commands → with_taken (get_or taken p 0) (get_or t p no_record) ≡ get_or now_table p no_record
-  at_place p h = sym (at_with taken t p (omega (arith, w.long)) (omega (arith, w.full)))
-
-  same_number : pick_number d n place now_state ≡ place_number now_table n place
-  same_number = passed_place d n now_state place w.passed
-
-  taken_one : place_number now_table n place ≡ 0 → one_pick d n place (tally steps refused now_state) ≡ tally (steps + 1) refused (step_at d place now_state)
-  unfolding one_pick
-  taken_one e = stop _ _ _ (eq-eqb _ _ (same_number ∙ e))
-
-  passed_one : (place_number now_table n place ≡ 0 → ⊥) → one_pick d n place (tally steps refused now_state) ≡ tally steps (refused + 1) now_state
-  unfolding one_pick
-  passed_one e = pass _ _ _ (ne_eqb _ _ (λ q. e (sym same_number ∙ q)))
+module _ (d : Drives) (n : ℕ) (ps : List ℕ) (s₀ : Store) (t₀ : List Record) where
+  pub picks_begin : (ws : List Watch) → run_number d n (state_in s₀ t₀) ≡ 0 → Watching n t₀ ws → PicksLeft d n ps s₀ t₀ s₀ t₀ ws 0 ps
+  unfolding by_picks
+  picks_begin ws z w = record { refused = 0; counted = omega arith; passed = run_passed d n (state_in s₀ t₀) z; watching = w; left = refl }
 
   -- a search has got further
-  pub searched_on : (to : List ℕ) → Searched now_table to → PicksLeft d n ps s₀ t s taken to steps refused k
-  searched_on to q =
-      record {
-        most = w.most;
-        counted = w.counted;
-        as_long = w.as_long;
-        full = w.full;
-        long = w.long;
-        passed = w.passed;
-        search = q;
-        over = w.over;
-        left = w.left;
-      }
+  pub picks_watched : (s : Store) (t : List Record) (ws to : List Watch) (steps : ℕ) (rest : List ℕ) → PicksLeft d n ps s₀ t₀ s t ws steps rest → Watching n t to → PicksLeft d n ps s₀ t₀ s t to steps rest
+  picks_watched s t ws to steps rest w q = record { refused = w.refused; counted = w.counted; passed = w.passed; watching = q; left = w.left }
 
-  pub pick_passed_over : k < length ps → (place_number now_table n place ≡ 0 → ⊥) → PicksLeft d n ps s₀ t s taken searched steps (refused + 1) (k + 1)
-  pick_passed_over h e =
-      record {
-        most = omega arith;
-        counted = omega (arith, w.counted);
-        as_long = w.as_long;
-        full = w.full;
-        long = w.long;
-        passed = w.passed;
-        search = w.search;
-        over = w.over;
-        left = w.left ∙ next_pick d n k ps (tally steps refused now_state) h ∙ ap (picks_from d n (drop (k + 1) ps)) (passed_one e);
-      }
-
-  -- ---- an accepted pick: r is the record at its place, and it takes a step
-
-  module _ (r : Record) (er : r ≡ get_or now_table place no_record) (small : place < most_commands) where
-    abbrev next_taken : List ℕ
-    next_taken = set taken place (r.taken + 1)
-
-    pub table_stepped : table_with next_taken t ≡ set now_table place (stepped (get_or now_table place no_record))
-    table_stepped =
-        set_with taken t place (r.taken + 1) (omega (arith, w.long))
-        ∙ ap (set now_table place)
-        (sym (with_with (r.taken + 1) (get_or taken place 0) (get_or t place no_record))
-        ∙ ap (with_taken (r.taken + 1)) (at_place place small ∙ sym er)
-        ∙ with_next r
-        ∙ ap stepped er)
-
-    pub some_left : place_number now_table n place ≡ 0 → 1 ≤ remaining r
-    some_left e = rw er (unfinished_some (get_or now_table place no_record) (place_free now_table n place e).unfinished)
-
-    pub pick_ready : place_number now_table n place ≡ 0 → (j : ℕ) → j ≤ remaining r → Ready j r (length (s memory)) (length (s (disk r.unit)))
-    pick_ready e j l =
-        ready d s r j (store_right d n now_state w.passed)
-        (ap (bad_record d s) er ∙ none_bad d n now_state w.passed place (place_free now_table n place e).in_use) l
-
-    pub pick_taken : (s' : Store) → k < length ps → place_number now_table n place ≡ 0 → s' ≡ step d r s
-        → PicksLeft d n ps s₀ t s' next_taken searched (steps + 1) refused (k + 1)
-    unfolding step_at
-    pick_taken s' h e es =
-        let x = get_or now_table place no_record in
-        let moved = es ∙ ap (λ (y : Record). step d y s) er in
-        let same : state_in s' (table_with next_taken t) ≡ step_at d place now_state = λ j. record { table = table_stepped j; store = moved j } in
-        let keeps = step_keeps_lengths d x s in
-        let f = place_free now_table n place e in
-        let in-now : place < length now_table = omega (arith, length_with taken t, w.full) in
-        let fewer = left_step d n place now_state (let a = in_use_few in omega (arith, length_with taken t, w.full)) f in
-        record {
-          most = omega arith;
-          counted = omega (arith, w.counted);
-          as_long = λ p. ap (λ (u : Store). length (u p)) moved ∙ keeps p ∙ w.as_long p;
-          full = w.full;
-          long = length-set taken place (r.taken + 1) ∙ w.long;
-          passed = subst (Passed d n) (sym same) (passed_step d n place now_state e w.passed);
-          search = subst (λ (u : List Record). Searched u searched) (sym table_stepped) (searched_still now_table place in-now searched w.search);
-          over = omega (arith, w.over, fewer, ap (λ (u : State). steps_left u.table n) same);
-          left =
-              w.left
-              ∙ next_pick d n k ps (tally steps refused now_state) h
-              ∙ ap (picks_from d n (drop (k + 1) ps)) (taken_one e ∙ ap (tally (steps + 1) refused) (sym same));
-        }
-
-  -- ---- every pick is done
-
-  pub all_picked : length ps ≤ k → by_picks d n ps (state_in s₀ t) ≡ tally steps refused now_state
+  -- every pick is done
+  pub all_picked : (s : Store) (t : List Record) (ws : List Watch) (steps : ℕ) (rest : List ℕ) → PicksLeft d n ps s₀ t₀ s t ws steps rest → length rest ≡ 0
+      → by_picks d n ps (state_in s₀ t₀) ≡ tally steps (length ps - steps) (state_in s t)
   unfolding picks_from
-  all_picked h = w.left ∙ ap (λ (qs : List ℕ). picks_from d n qs (tally steps refused now_state)) (drop_of_length-le ps {i = k} h)
+  all_picked s t ws steps [] w e = let refused : w.refused ≡ length ps - steps = omega (arith, w.counted) in w.left ∙ ap (λ (x : ℕ). tally steps x (state_in s t)) refused
+  all_picked s t ws steps (p ∷ rest) w e = absurd (omega arith)
 
-  -- all commands are finished where as many steps were taken as were left at first
-  pub finished_by_count : eqb steps (steps_left t n) ≡ all_finished now_table n
-  finished_by_count = go (means_eq steps (steps_left t n)) ∙ sym (none_left now_table n)
-    where
-      go : {b : Bool} → Means (steps ≡ steps_left t n) b → b ≡ eqb (steps_left now_table n) 0
-      go (holds e) = sym (eq-eqb (steps_left now_table n) 0 (omega (arith, w.over)))
-      go (fails h) = sym (ne_eqb (steps_left now_table n) 0 (λ e. h (omega (arith, w.over))))
+  -- what is left of a command in use may be taken: there is room for it
+  pub room_for : (s : Store) (t : List Record) → Passed d n (state_in s t) → (p : ℕ) → p < n → (j : ℕ) → j ≤ remaining (get_or t p no_record) → ReadyIn j (get_or t p no_record) s
+  room_for s t w p h j l = ready d s (get_or t p no_record) j (store_right d n (state_in s t) w) (none_bad d n (state_in s t) w p h) l
+
+  module _ (ws : List Watch) (p : ℕ) where
+    abbrev Left : Store → List Record → ℕ → List ℕ → Type 0
+    Left s t steps rest = PicksLeft d n ps s₀ t₀ s t ws steps rest
+
+    abbrev here : List Record → Record
+    here t = get_or t p no_record
+
+    same_left : {s s' : Store} {t t' : List Record} {steps steps' : ℕ} (rest : List ℕ) → s ≡ s' → t ≡ t' → steps ≡ steps' → Left s t steps rest → Left s' t' steps' rest
+    same_left {s} {s'} {t} {t'} {steps} {steps'} rest es et ep w =
+        subst (λ (x : Store). Left x t' steps' rest) es
+        (subst (λ (x : List Record). Left s x steps' rest) et
+        (subst (λ (x : ℕ). Left s t x rest) ep w))
+
+    module _ (s : Store) (t : List Record) (steps q : ℕ) (rest : List ℕ) (e : q ≡ p) (w : Left s t steps (q ∷ rest)) where
+      same_number : pick_number d n q (state_in s t) ≡ place_number t n p
+      same_number = ap (λ (x : ℕ). pick_number d n x (state_in s t)) e ∙ passed_place d n (state_in s t) p w.passed
+
+      one_passed : (place_number t n p ≡ 0 → ⊥) → Left s t steps rest
+      unfolding picks_from one_pick
+      one_passed h =
+          record {
+            refused = w.refused + 1;
+            counted = omega (arith, w.counted);
+            passed = w.passed;
+            watching = w.watching;
+            left = w.left ∙ ap (picks_from d n rest) (pass _ _ _ (ne_eqb _ _ (λ z. h (sym same_number ∙ z))));
+          }
+
+      one_taken : place_number t n p ≡ 0 → Left (step d (here t) s) (set t p (stepped (here t))) (steps + 1) rest
+      unfolding picks_from one_pick step_at
+      one_taken z =
+          let f = place_free t n p z in
+          let inside : p < length t = let long = in_table d n (state_in s t) w.passed in omega (arith, f.in_use) in
+          record {
+            refused = w.refused;
+            counted = omega (arith, w.counted);
+            passed = passed_step d n p (state_in s t) z w.passed;
+            watching = watching_still t p inside n ws w.watching;
+            left =
+                w.left
+                ∙ ap (picks_from d n rest)
+                (stop _ _ _ (eq-eqb _ _ (same_number ∙ z)) ∙ ap (λ (x : ℕ). tally (steps + 1) w.refused (step_at d x (state_in s t))) e);
+          }
+
+    -- a place that may go, after a step at it that was not the last
+    still_free : (t : List Record) → p < length t → place_number t n p ≡ 0 → 2 ≤ remaining (here t) → place_number (set t p (stepped (here t))) n p ≡ 0
+    still_free t inside z h =
+        let r = here t in
+        let f = place_free t n p z in
+        let less = remaining_stepped r (omega arith) in
+        free_place (set t p (stepped r)) n p
+        (record {
+          in_use = f.in_use;
+          unfinished = rw (get_or-set_same t p (stepped r) no_record inside) (some_unfinished (stepped r) (omega arith));
+          first = waits_still t p inside ∙ f.first;
+        })
+
+    -- picks in a row
+    pub row_passed : (x rest : List ℕ) (s : Store) (t : List Record) (steps : ℕ) → ((k : ℕ) → k < length x → get_or x k 0 ≡ p) → (place_number t n p ≡ 0 → ⊥) → Left s t steps (x ++ rest) → Left s t steps rest
+    row_passed [] rest s t steps same h w = w
+    row_passed (q ∷ x) rest s t steps same h w =
+        row_passed x rest s t steps (λ k l. same (suc k) (omega arith)) h (one_passed s t steps q (x ++ rest) (same 0 (omega arith)) w h)
+
+    pub row_taken : (x rest : List ℕ) (c : ℕ) (s : Store) (t : List Record) (steps : ℕ) → ((k : ℕ) → k < length x → get_or x k 0 ≡ p) → (1 ≤ remaining (here t) → place_number t n p ≡ 0)
+        → c ≡ min (length x) (remaining (here t)) → Left s t steps (x ++ rest) → Left (steps_done d c (here t) s) (set t p (advanced c (here t))) (steps + c) rest
+    unfolding steps_done advanced
+    row_taken [] rest zero s t steps same z e w = same_left rest refl (sym (set-get_or t p no_record)) (sym (add-zero steps)) w
+    row_taken [] rest (suc c) s t steps same z e w = absurd (omega arith)
+    row_taken (q ∷ x) rest zero s t steps same z e w =
+        let none : remaining (here t) ≡ 0 = omega arith in
+        row_taken x rest zero s t steps (λ k l. same (suc k) (omega arith)) z (omega arith)
+        (one_passed s t steps q (x ++ rest) (same 0 (omega arith)) w (λ y. let some = unfinished_some (here t) (place_free t n p y).unfinished in omega arith))
+    row_taken (q ∷ x) rest (suc c) s t steps same z e w =
+        let r = here t in
+        let goes = z (omega arith) in
+        let f = place_free t n p goes in
+        let inside : p < length t = let long = in_table d n (state_in s t) w.passed in omega (arith, f.in_use) in
+        let less = remaining_stepped r (omega arith) in
+        let t₁ = set t p (stepped r) in
+        let there : here t₁ ≡ stepped r = get_or-set_same t p (stepped r) no_record inside in
+        let w₁ = one_taken s t steps q (x ++ rest) (same 0 (omega arith)) w goes in
+        let still : 1 ≤ remaining (here t₁) → place_number t₁ n p ≡ 0 = λ h. still_free t inside goes (let g = ap remaining there in omega arith) in
+        let w₂ = row_taken x rest c (step d r s) t₁ (steps + 1) (λ k l. same (suc k) (omega arith)) still (let g = ap remaining there in omega arith) w₁ in
+        same_left rest
+        (ap (λ (y : Record). steps_done d c y (step d r s)) there)
+        (ap (λ (y : Record). set t₁ p (advanced c y)) there ∙ set-set t p (stepped r) (advanced c (stepped r)))
+        (omega arith) w₂
+
+    -- the next picks up to the first that names another place, as the code cuts them off
+    module _ (s : Store) (t : List Record) (from : List Watch) (steps : ℕ) (all x rest : List ℕ) (cut : all ≡ x ++ rest) (adjacent : AllAdjacentBelow (λ y z. eqb y z ≡ true) all (length x)) (ep : p ≡ get_or x 0 0)
+        (w : PicksLeft d n ps s₀ t₀ s t from steps all) (watched : Watching n t ws) where
+      name-it : (k : ℕ) → k < length x → get_or x k 0 ≡ p
+      name-it k h = one_place x rest (subst (λ (y : List ℕ). AllAdjacentBelow (λ y z. eqb y z ≡ true) y (length x)) cut adjacent) k h ∙ sym ep
+
+      from-here : Left s t steps (x ++ rest)
+      from-here = subst (Left s t steps) cut (picks_watched s t from ws steps all w watched)
+
+      pub part_passed : (place_number t n p ≡ 0 → ⊥) → Left s t steps rest
+      part_passed h = row_passed x rest s t steps name-it h from-here
+
+      pub part_taken : place_number t n p ≡ 0 → (c : ℕ) → c ≡ min (length x) (remaining (here t)) → (s' : Store) → s' ≡ steps_done d c (here t) s → (t' : List Record) → t' ≡ set t p (advanced c (here t)) → Left s' t' (steps + c) rest
+      part_taken z c e s' es t' et = same_left rest (sym es) (sym et) refl (row_taken x rest c s t steps name-it (λ _. z) e from-here)
+
+-- the parts of the picks go on to be cut by the same comparison
+module _ {F : Type 0} (g : Mut F (Bor ℕ × (Bor ℕ × Unit {0})) Bool) (e : ℕ → ℕ → Bool) where
+  pub still_compares : (s t : ChunkBy ℕ F) (xs : List (Bor (List ℕ))) → Yields (chunk_by_steps g) s xs t → ComputesOnPairs g e (chunk_by_callee s) → ComputesOnPairs g e (chunk_by_callee t)
+  still_compares s t [] y h = subst (λ (u : ChunkBy ℕ F). ComputesOnPairs g e (chunk_by_callee u)) y h
+  still_compares s t (x ∷ xs) y h = still_compares y.0 t xs y.2 (y.1.2 e h).0

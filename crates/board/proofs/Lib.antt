@@ -8,9 +8,6 @@ pub mod Searching
 pub mod Picking
 pub mod Sighting
 pub mod Taken
-pub mod Footprints
-pub mod Opening
 pub mod Runs
 pub mod ByPicks
-pub mod Again
 pub mod Written

@@ -25,13 +25,13 @@ use Rattle.meaning.specs.Pick.{bad_record}
 use Rattle.meaning.specs.Run.{steps_done}
 use Rattle.meaning.proofs.All.{All}
 use Rattle.meaning.proofs.Rows.{pass, stop}
-use Rattle.meaning.proofs.Spaces.{moves_append}
+use Rattle.meaning.proofs.Spaces.{AsLong, length_moves, moves_append}
 use Rattle.meaning.proofs.Conditions.{good, right_store, Inside}
 use Rattle.meaning.proofs.Pieces.{data_plain, data_listed}
 use Rattle.board.specs.OneUnit.{on_unit}
 use Rattle.board.specs.Ready.{Ready}
 use Rattle.board.specs.Moved.{sectors_moved, on_disk, part_move, window_moved}
-use Rattle.board.proofs.Edge.{put_lent, unit_laid, unit_own, unit_below}
+use Rattle.board.proofs.Edge.{unit_disk, put_lent, unit_laid, unit_own, unit_below}
 use Rattle.board.proofs.Windows.{sectors_window, plain_window}
 
 -- ---- a command that is no transfer
@@ -44,6 +44,13 @@ pub none_moved : (n : ℕ) (r : Record) (s : Store) → reads r ≡ false → wr
 unfolding sectors_moved stepped with_taken
 none_moved zero r s e w = refl
 none_moved (suc k) r s e w = ap (sectors_moved k (stepped r)) (one_other r s e w) ∙ none_moved k (stepped r) s e w
+
+-- ---- sectors keep all lengths
+
+pub sectors_long : (n : ℕ) (r : Record) (s : Store) → AsLong (sectors_moved n r s) s
+unfolding sectors_moved
+sectors_long zero r s p = refl
+sectors_long (suc k) r s p = sectors_long k (stepped r) (moves (sector_move r r.taken) s) p ∙ length_moves (sector_move r r.taken) s p
 
 -- ---- a transfer
 
@@ -76,47 +83,51 @@ module _ (n : ℕ) (r : Record) (s : Store) (t : transfers r ≡ true) (y : Read
   listed_moved : r.ranges ≢ 0 → sectors_moved n r s ≡ in_pieces n r r.unit (reads r) s
   listed_moved listed = all_moved ∙ ap window (data_listed r listed)
 
--- a transfer that is ready, on the image of its unit u out of all that is lent
-module _ (n : ℕ) (r : Record) (m : List ℕ) (is : List (List ℕ)) (t : transfers r ≡ true) (y : Ready n r (length m) (length (get_or is r.unit []))) (u : ℕ) (eu : r.unit ≡ u) where
-  abbrev image : List ℕ
-  image = get_or is u []
-
+-- a transfer that is ready, on memory and the image of its own unit
+module _ (n : ℕ) (r : Record) (m i : List ℕ) (t : transfers r ≡ true) (y : Ready n r (length m) (length i)) where
   -- there is room for what it moves
-  ready_on : Ready n r (length m) (length image)
-  ready_on = subst (λ (v : ℕ). Ready n r (length m) (length (get_or is v []))) eu y
-
-  pub plain_room : r.ranges ≡ 0 → (r.address + taken_bytes r + sector_bytes * n ≤ length m) × (on_disk r + taken_bytes r + sector_bytes * n ≤ length image)
+  pub plain_room : r.ranges ≡ 0 → (r.address + taken_bytes r + sector_bytes * n ≤ length m) × (on_disk r + taken_bytes r + sector_bytes * n ≤ length i)
   plain_room plain =
       let few = y.left t in
       let all : All (Inside (length m)) (bytes r.address (sector_bytes * r.count) ∷ []) = subst (All (Inside (length m))) (data_plain r plain) (y.bytes t) in
-      (omega (arith, all.0), omega (arith, ready_on.sectors t))
+      (omega (arith, all.0), omega (arith, y.sectors t))
 
-  pub listed_room : r.ranges ≢ 0 → All (λ x. Inside (length m) (range_of x)) (links_of r) × (on_disk r + (taken_bytes r + sector_bytes * n) ≤ length image)
-  listed_room listed = (each (links_of r) (subst (All (Inside (length m))) (data_listed r listed) (y.bytes t)), omega (arith, ready_on.sectors t))
+  pub listed_room : r.ranges ≢ 0 → All (λ x. Inside (length m) (range_of x)) (links_of r) × (on_disk r + (taken_bytes r + sector_bytes * n) ≤ length i)
+  listed_room listed = (each (links_of r) (subst (All (Inside (length m))) (data_listed r listed) (y.bytes t)), omega (arith, y.sectors t))
     where
       each : (xs : List Link) → All (Inside (length m)) (map range_of xs) → All (λ x. Inside (length m) (range_of x)) xs
       each [] h = tt
       each (x ∷ xs) h = (h.0, each xs h.1)
 
-  -- and what is done to memory and this image, whatever the other units hold, is done to all that is lent; `rd` is its direction as the code
-  -- found it
-  module _ (below : u < length is) (rd : Bool) (er : rd ≡ reads r) (m' i' : List ℕ) where
-    abbrev Done : (ℕ → Bool → Store → Store) → Type 0
-    Done f = ((v : ℕ) (s : Store) → on_unit v m' i' s ≡ f v rd (on_unit v m image s)) → lent m' (set is u i') ≡ sectors_moved n r (lent m is)
+  -- and what is done to the two, whatever else a store holds, is done to any store that has them; `rd` is its direction as the code found it
+  module _ (rd : Bool) (er : rd ≡ reads r) (m' i' : List ℕ) where
+    abbrev before : Store → Store
+    before s = on_unit r.unit m i s
 
-    done : (f : ℕ → Bool → Store → Store) → sectors_moved n r (lent m is) ≡ f r.unit (reads r) (lent m is) → Done f
-    done f whole e =
-        sym (unit_laid u m' i' m is below)
-        ∙ e u (lent m is)
-        ∙ ap (f u rd) (unit_own u m is below)
-        ∙ ap₂ (λ (v : ℕ) (b : Bool). f v b (lent m is)) (sym eu) er
-        ∙ sym whole
+    abbrev Done : (ℕ → Bool → Store → Store) → Type 0
+    Done f = ((u : ℕ) (s : Store) → on_unit u m' i' s ≡ f u rd (on_unit u m i s)) → (s : Store) → on_unit r.unit m' i' s ≡ sectors_moved n r (before s)
+
+    ready_on : (s : Store) → Ready n r (length m) (length (before s (disk r.unit)))
+    ready_on s = subst (λ (l : List ℕ). Ready n r (length m) (length l)) (sym (unit_disk r.unit m i s)) y
+
+    done : (f : ℕ → Bool → Store → Store) → ((s : Store) → sectors_moved n r (before s) ≡ f r.unit (reads r) (before s)) → Done f
+    done f whole e s = e r.unit s ∙ ap (λ (b : Bool). f r.unit b (before s)) er ∙ sym (whole s)
 
     pub plain_done : r.ranges ≡ 0 → Done (plainly n r)
-    plain_done plain = done (plainly n r) (plain_moved n r (lent m is) t y plain)
+    plain_done plain = done (plainly n r) (λ s. plain_moved n r (before s) t (ready_on s) plain)
 
     pub listed_done : r.ranges ≢ 0 → Done (in_pieces n r)
-    listed_done listed = done (in_pieces n r) (listed_moved n r (lent m is) t y listed)
+    listed_done listed = done (in_pieces n r) (λ s. listed_moved n r (before s) t (ready_on s) listed)
+
+-- what is done to memory and the image of its unit u is done to all that is lent
+pub unit_done : (n : ℕ) (r : Record) (m : List ℕ) (is : List (List ℕ)) (u : ℕ) → r.unit ≡ u → u < length is → (m' i' : List ℕ)
+    → ((s : Store) → on_unit r.unit m' i' s ≡ sectors_moved n r (on_unit r.unit m (get_or is u []) s)) → lent m' (set is u i') ≡ sectors_moved n r (lent m is)
+unit_done n r m is u eu below m' i' e =
+    ap (λ (v : ℕ). lent m' (set is v i')) (sym eu)
+    ∙ sym (unit_laid r.unit m' i' m is (subst (◌< length is) (sym eu) below))
+    ∙ e (lent m is)
+    ∙ ap (λ (v : ℕ). sectors_moved n r (on_unit r.unit m (get_or is v []) (lent m is))) (sym eu)
+    ∙ ap (sectors_moved n r) (unit_own r.unit m is (subst (◌< length is) (sym eu) below))
 
 -- its unit is one that there is
 pub ready_below : (n : ℕ) (r : Record) (k : ℕ) (i₀ i₁ i₂ i₃ : List ℕ) → 1 ≤ n → transfers r ≡ true → Ready n r k (length (get_or (images i₀ i₁ i₂ i₃) r.unit [])) → r.unit < 4

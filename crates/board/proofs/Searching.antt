@@ -1,16 +1,19 @@
--- The search for an earlier command that blocks a place: what the places passed show, what a blocker shows, and what of it stays true when
--- a step is taken somewhere. A step never makes a command block that did not.
-use mathlib.Core.Path.{◌≡◌, refl, sym, ap, ◌∙◌}
+-- The search for an earlier command that blocks a place: what the places passed show, what a blocker shows, how footprints tell it, and what of
+-- it stays true when a step is taken somewhere. A step never makes a command block that did not, and changes nothing of what one touches.
+use mathlib.Core.Path.{◌≡◌, refl, sym, ap, ap₂, ◌∙◌, subst}
 use Prim.Native.Nat.{ℕ, zero, suc, ◌+◌, ◌≤◌, ◌<◌}
+use native.Mathlib.Nat.{not-suc-le-zero}
 use native.Mathlib.Numerals.{add-one}
 use native.Mathlib.Omega.{arith}
 use mathlib.Core.Bool.{Bool, true, false, not, ◌&&◌, ◌||◌, or_assoc, true≢false}
 use mathlib.Core.List.{List, [], ◌∷◌, ◌++◌}
 use lib.ListN.{length, get_or, set, take, replicate, length-set}
 use lib.Seq.{take-suc, take-set-le, get_or-set_same, get_or-set_other}
-use borrow.Author.Tests.{leb-true, le-leb}
+use lib.Dec.{leb}
+use borrow.Author.Tests.{leb-true, le-leb, lt-leb}
 use Rattle.meaning.specs.declared.Record.{Record}
 use Rattle.meaning.specs.Each.{some_of}
+use Rattle.meaning.specs.State.{most_commands}
 use Rattle.meaning.specs.Command.{steps_of, finished, no_record}
 use Rattle.meaning.specs.Touch.{touched, conflict}
 use Rattle.meaning.specs.Step.{with_taken, stepped}
@@ -18,7 +21,12 @@ use Rattle.meaning.specs.Pick.{waits}
 use Rattle.meaning.proofs.Rows.{or_none, or-false, and_first, and_second}
 use Rattle.meaning.proofs.Tests.{and_no}
 use Rattle.meaning.proofs.Means.{Means, holds, fails, is_true, means_itself, means_eq, means_some}
+use Rattle.command.specs.declared.touch.Footprint.{Footprint}
+use Rattle.command.specs.Footprints.{footprint_of, footprints_meet}
+use Rattle.command.proofs.Touching.{no_conflict}
+use Rattle.board.specs.declared.run.Watch.{Watch}
 use Rattle.board.specs.Sight.{blocking}
+use Rattle.board.specs.Watching.{no_watch, Watching}
 
 -- ---- a search from the front
 
@@ -68,6 +76,10 @@ stepped_waits : (r : Record) → blocking (stepped r) ≡ blocking r
 unfolding conflict touched stepped with_taken
 stepped_waits r = refl
 
+stepped_touches : (r : Record) → footprint_of (stepped r) ≡ footprint_of r
+unfolding footprint_of stepped with_taken
+stepped_touches r = refl
+
 -- nor what e touches, and once finished it is finished
 stepped_blocks : (r e : Record) → blocking r e ≡ false → blocking r (stepped e) ≡ false
 unfolding conflict touched stepped with_taken finished steps_of
@@ -80,47 +92,86 @@ stepped_blocks r e h = go (finished e) refl h
         later q = le-leb (steps_of e) (e.taken + 1) (omega (arith, leb-true (steps_of e) e.taken q))
     go false f g = ap (λ (b : Bool). not (finished (stepped e)) && b) g ∙ and_no (not (finished (stepped e)))
 
--- ---- how far each place was searched
+-- ---- by footprints
 
--- the first of `searched` at p do not block p; t is the table now
-pub record Searched (t : List Record) (searched : List ℕ) : Type 0 where
-  pub long : length searched ≡ 32
-  pub within : (p : ℕ) → get_or searched p 0 ≤ p
-  pub free : (p : ℕ) → some_of (blocking (get_or t p no_record)) (take (get_or searched p 0) t) ≡ false
+-- f and g are the footprints of e and r
+module _ (f g : Footprint) (e r : Record) (ef : f ≡ footprint_of e) (eg : g ≡ footprint_of r) where
+  finished_is : finished e ≡ leb f.steps e.taken
+  unfolding finished steps_of footprint_of
+  finished_is = ap (λ (x : Footprint). leb x.steps e.taken) (sym ef)
 
-zeros : (n p : ℕ) → ◌≡◌ {A = ℕ} (get_or (replicate n 0) p 0) 0
+  pub done_free : f.steps ≤ e.taken → blocking r e ≡ false
+  done_free h = finished_free r e (finished_is ∙ le-leb f.steps e.taken h)
+
+  -- footprints that do not meet, and, where they do, the ranges of both
+  pub apart_free : e.taken < f.steps → footprints_meet f g ≡ false → blocking r e ≡ false
+  apart_free h c = by_conflict r e false (finished_is ∙ lt-leb f.steps e.taken h) (no_conflict e r (ap₂ footprints_meet (sym ef) (sym eg) ∙ c))
+
+  pub by_ranges : (b : Bool) → e.taken < f.steps → conflict e r ≡ b → blocking r e ≡ b
+  by_ranges b h c = by_conflict r e b (finished_is ∙ lt-leb f.steps e.taken h) c
+
+-- ---- what is watched
+
+zeros : (n p : ℕ) → ◌≡◌ {A = ℕ} (get_or (replicate n no_watch) p no_watch).searched 0
 zeros zero p = refl
 zeros (suc n) zero = refl
 zeros (suc n) (suc p) = zeros n p
 
-pub searched_none : (t : List Record) → Searched t (replicate 32 0)
-searched_none t =
+-- at first nothing
+pub watching_none : (t : List Record) → Watching 0 t (replicate 32 no_watch)
+watching_none t =
     record {
       long = refl;
+      touches = λ p h. absurd (not-suc-le-zero h);
       within = λ p. omega (arith, zeros 32 p);
       free = λ p. ap (λ (k : ℕ). some_of (blocking (get_or t p no_record)) (take k t)) (zeros 32 p);
     }
 
--- a search at q got as far as k
-pub searched_to : (t : List Record) (searched : List ℕ) (q k : ℕ) → Searched t searched → q < 32 → k ≤ q → some_of (blocking (get_or t q no_record)) (take k t) ≡ false
-    → Searched t (set searched q k)
-searched_to t searched q k w h l e =
-    record {
-      long = length-set searched q k ∙ w.long;
-      within = λ p. small p (means_eq p q);
-      free = λ p. clear p (means_eq p q);
-    }
-  where
-    at : get_or (set searched q k) q 0 ≡ k
-    at = get_or-set_same searched q k 0 (omega (arith, w.long))
+module _ (n : ℕ) (t : List Record) (ws : List Watch) (w : Watching n t ws) where
+  pub watching_fewer : (m : ℕ) → m ≤ n → Watching m t ws
+  watching_fewer m l = record { long = w.long; touches = λ p h. w.touches p (omega arith); within = w.within; free = w.free }
 
-    small : (p : ℕ) {b : Bool} → Means (p ≡ q) b → get_or (set searched q k) p 0 ≤ p
-    small p (holds s) = rw s (omega (arith, at))
-    small p (fails n) = rw (get_or-set_other searched q p k 0 n) (w.within p)
+  -- of q the watch is x
+  module _ (q : ℕ) (small : q < most_commands) (x : Watch) where
+    abbrev after_watch : List Watch
+    after_watch = set ws q x
 
-    clear : (p : ℕ) {b : Bool} → Means (p ≡ q) b → some_of (blocking (get_or t p no_record)) (take (get_or (set searched q k) p 0) t) ≡ false
-    clear p (holds s) = rw (s, at) e
-    clear p (fails n) = rw (get_or-set_other searched q p k 0 n) (w.free p)
+    is-there : get_or after_watch q no_watch ≡ x
+    is-there = get_or-set_same ws q x no_watch (omega (arith, w.long))
+
+    is-other : (p : ℕ) → (p ≡ q → ⊥) → get_or after_watch p no_watch ≡ get_or ws p no_watch
+    is-other p h = get_or-set_other ws q p x no_watch h
+
+    abbrev Free : ℕ → Watch → Type 0
+    Free p y = (y.searched ≤ p) × (some_of (blocking (get_or t p no_record)) (take y.searched t) ≡ false)
+
+    watching_set : (m : ℕ) → ((p : ℕ) → p < m → (p ≡ q → ⊥) → p < n) → (q < m → x.footprint ≡ footprint_of (get_or t q no_record)) → Free q x → Watching m t after_watch
+    watching_set m other own f =
+        record {
+          long = length-set ws q x ∙ w.long;
+          touches = λ p h. one p h (means_eq p q);
+          within = λ p. (each p (means_eq p q)).0;
+          free = λ p. (each p (means_eq p q)).1;
+        }
+      where
+        one : (p : ℕ) → p < m → {b : Bool} → Means (p ≡ q) b → (get_or after_watch p no_watch).footprint ≡ footprint_of (get_or t p no_record)
+        one p h (holds s) = rw (s, is-there) (own (subst (◌< m) s h))
+        one p h (fails g) = ap (λ (y : Watch). y.footprint) (is-other p g) ∙ w.touches p (other p h g)
+
+        each : (p : ℕ) {b : Bool} → Means (p ≡ q) b → Free p (get_or after_watch p no_watch)
+        each p (holds s) = rw (s, is-there) f
+        each p (fails g) = subst (Free p) (sym (is-other p g)) (w.within p, w.free p)
+
+  -- one footprint more
+  pub watching_more : n < most_commands → (x : Watch) → x.footprint ≡ footprint_of (get_or t n no_record) → x.searched ≡ (get_or ws n no_watch).searched → Watching (n + 1) t (set ws n x)
+  watching_more h x e s =
+      watching_set n h x (n + 1) (λ p l g. omega arith) (λ _. e)
+      (subst (λ (k : ℕ). (k ≤ n) × (some_of (blocking (get_or t n no_record)) (take k t) ≡ false)) (sym s) (w.within n, w.free n))
+
+  -- a search at q got as far as k
+  pub watching_to : (q : ℕ) → q < most_commands → (x : Watch) → x.footprint ≡ (get_or ws q no_watch).footprint → x.searched ≤ q → some_of (blocking (get_or t q no_record)) (take x.searched t) ≡ false
+      → Watching n t (set ws q x)
+  watching_to q h x e l f = watching_set q h x n (λ p s g. s) (λ s. e ∙ w.touches q s) (l, f)
 
 -- a step is taken at q
 module _ (t : List Record) (q : ℕ) (h : q < length t) where
@@ -131,17 +182,22 @@ module _ (t : List Record) (q : ℕ) (h : q < length t) where
   same_waits p (holds s) = rw (s, get_or-set_same t q (stepped (get_or t q no_record)) no_record h) (stepped_waits (get_or t q no_record))
   same_waits p (fails n) = ap blocking (get_or-set_other t q p (stepped (get_or t q no_record)) no_record n)
 
-  pub searched_still : (searched : List ℕ) → Searched t searched → Searched after searched
-  searched_still searched w =
+  same_touch : (p : ℕ) {b : Bool} → Means (p ≡ q) b → footprint_of (get_or after p no_record) ≡ footprint_of (get_or t p no_record)
+  same_touch p (holds s) = rw (s, get_or-set_same t q (stepped (get_or t q no_record)) no_record h) (stepped_touches (get_or t q no_record))
+  same_touch p (fails n) = ap footprint_of (get_or-set_other t q p (stepped (get_or t q no_record)) no_record n)
+
+  pub watching_still : (n : ℕ) (ws : List Watch) → Watching n t ws → Watching n after ws
+  watching_still n ws w =
       record {
         long = w.long;
+        touches = λ p l. w.touches p l ∙ sym (same_touch p (means_eq p q));
         within = w.within;
         free = λ p.
-            let n = get_or searched p 0 in
+            let k = (get_or ws p no_watch).searched in
             let r = get_or t p no_record in
             let e = get_or t q no_record in
-            ap (λ (f : Record → Bool). some_of f (take n after)) (same_waits p (means_eq p q))
-            ∙ none_set no_record (blocking r) t n q (stepped e) (stepped_blocks r e) (w.free p);
+            ap (λ (f : Record → Bool). some_of f (take k after)) (same_waits p (means_eq p q))
+            ∙ none_set no_record (blocking r) t k q (stepped e) (stepped_blocks r e) (w.free p);
       }
 
   -- and whoever waits at q waits as before

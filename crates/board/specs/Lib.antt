@@ -1,9 +1,8 @@
--- What the functions of this crate say in their contracts beside the rules: one unit's image beneath all others, what steps ask of it, sectors moved together, what
--- a run changes, what a pick sees and changes, what a run sees first, and picks in a row.
+-- What the functions of this crate say in their contracts beside the rules: one unit's image beneath all others, sectors moved together, what
+-- steps ask of it, what a run answers, what a pick sees and changes, and what a run by picks keeps of its commands.
 pub mod OneUnit
 pub mod Moved
 pub mod Ready
-pub mod Changes
+pub mod RunAnswers
 pub mod Sight
-pub mod Opening
-pub mod Alike
+pub mod Watching

@@ -1,87 +1,76 @@
-// A pick: the numbers 1, 9, 8, 7, 6, 0 in that order (Pick 2 to 7), and on 0 one step at its place. Beneath its two faces, the table by value
-// and the lent one, it is told what is seen of the table, and hands back what it changes: the steps taken at its place.
-ghost use Rattle.std.specs.Prelude.{◌≡◌};
-ghost use Rattle.meaning.specs.Store.{lent, images};
+// A pick on a lent table: the numbers 1, 9, 8, 7, 6 in that order (Pick 2 to 7), and where none of them is given one step at its place.
+ghost use Rattle.std.specs.Prelude.{◌≡◌, ◌≤◌, length, get_or, take};
+ghost use Rattle.meaning.specs.Refusals.{told};
+ghost use Rattle.meaning.specs.Lends.{store_of, SameLent};
 ghost use Rattle.meaning.specs.Drives.{drives_of};
-ghost use Rattle.board.specs.Sight.{place_seen, refused_pick, PickSees};
+ghost use Rattle.meaning.specs.State.{state_in, most_commands};
+ghost use Rattle.meaning.specs.Command.{no_record};
+ghost use Rattle.meaning.specs.Pick.{PickGives};
+ghost use Rattle.board.specs.Sight.{place_seen, looked_over};
 
-use crate::{RECORDS, step};
-use chain::sizes;
-use command::sound;
+use crate::{RECORDS, step, table};
+use command::{sound, touch};
+use meaning::lends::LentStore;
+use meaning::refusals::Refusal;
 use meaning::{LentDrives, Record};
 use units::rooms;
 
-// What a pick sees of its table beside the record at its place: whether a record in use is bad, and whether an earlier unfinished command
-// conflicts with the one at its place.
-#[derive(Clone, Copy)]
-pub struct Sight {
-    pub bad: bool,
-    pub blocked: bool,
-}
-
-// What a pick answers and changes: its number, and on 0 the steps taken at its place after its step. On a refusal they are 0.
-#[derive(Clone, Copy)]
-pub struct PickedTaken {
-    pub number: u8,
-    pub taken: u32,
-}
-
-// The place whose record a pick looks at: its own, or the first where a table has no such place, which then gets 8 or 9.
-pub fn place_seen(place: usize) -> usize
-    ensures { result ≡ place_seen place }
-{
-    if place < RECORDS { place } else { 0 }
-}
-
-// A refusal: nothing is changed.
-fn refused(number: u8) -> PickedTaken
-    ensures { result ≡ refused_pick number }
-{
-    PickedTaken { number, taken: 0 }
-}
-
-// A pick by the record at its place, and by what else is seen of a table of 32 records or more. A bad record there is refused here too,
-// whatever was seen, since a public function asks nothing of its caller. What is lent has one lifetime, as in the two runs, so that the
-// exported calls can lend all of it at their own.
-pub fn pick_seen<'a>(
-    memory: &'a mut [u8],
-    image0: &'a mut [u8],
-    image1: &'a mut [u8],
-    image2: &'a mut [u8],
-    image3: &'a mut [u8],
-    l: LentDrives,
-    r: Record,
-    seen: Sight,
+// Whether an earlier command in use makes the one at this place wait; a bad record among those in use refuses the pick. Of a place past all
+// records the last one is looked at, and nothing goes by what is seen of it. The ranges of two commands are tested only where their
+// footprints meet.
+fn look_over(
+    table: &[Record],
     commands: usize,
     place: usize,
-) -> PickedTaken
-    ensures { PickSees (drives_of l) commands place r seen (lent memory.old (images image0.old image1.old image2.old image3.old)) result (lent memory.new (images image0.new image1.new image2.new image3.new)) }
+    memory: u64,
+    drives: LentDrives,
+) -> Result<bool, Refusal>
+    requires { (commands ≤ length table.now) × (most_commands ≤ length table.now) }
+    ensures { result ≡ looked_over memory (drives_of drives) (get_or table.now (place_seen place) no_record) place (take commands table.now) }
 {
-    if sizes::sizes_wrong(memory, image0, image1, image2, image3, l) {
-        return refused(1);
+    let wanted = &table[place.min(RECORDS - 1)];
+    let rooms = rooms::rooms_of(drives);
+    let footprint = touch::footprint_of(*wanted);
+    let mut waits = false;
+    for (k, r) in table[..commands].iter().enumerate() {
+        let seen = sound::look(memory, rooms, *r, footprint, k < place);
+        if seen.bad {
+            return Err(Refusal::Spoiled);
+        }
+        waits |= seen.near && touch::ranges_conflict(*r, *wanted);
+    }
+    Ok(waits)
+}
+
+// A pick: one step at its place, or nothing is changed.
+pub fn pick(
+    store: &mut LentStore<'_>,
+    table: &mut [Record],
+    commands: usize,
+    place: usize,
+) -> Result<(), Refusal>
+    ensures same { SameLent store.old store.new }
+    ensures gives { PickGives (drives_of store.old.drives) commands place (state_in (store_of store.old) table.old) (told result) (state_in (store_of store.new) table.new) }
+{
+    if table::wrong_size(store, table) {
+        return Err(Refusal::WrongSize);
     }
     if RECORDS < commands {
-        return refused(9);
+        return Err(Refusal::Spoiled);
     }
-    if seen.bad {
-        return refused(9);
-    }
+    let memory = store.memory.len() as u64;
+    let waits = look_over(table, commands, place, memory, store.drives)?;
     if commands <= place {
-        return refused(8);
+        return Err(Refusal::NoPlace);
     }
-    if command::finished(r) {
-        return refused(7);
+    let r = &table[place];
+    if command::finished(*r) {
+        return Err(Refusal::Finished);
     }
-    if seen.blocked {
-        return refused(6);
+    if waits {
+        return Err(Refusal::Waits);
     }
-    let room = rooms::room_in(units::drive_of(l, r.unit));
-    if sound::bad_record(memory.len() as u64, room, r) {
-        return refused(9);
-    }
-    step::take_steps(memory, image0, image1, image2, image3, l, r, 1);
-    PickedTaken {
-        number: 0,
-        taken: r.taken + 1,
-    }
+    step::take_steps(store, r, 1);
+    table::advance(&mut table[place], 1);
+    Ok(())
 }

@@ -1,88 +1,67 @@
 // The two runs: by a lent list of picks, and as written within a step budget. Numbers 1 and 9 are tested once, before anything moves
-// (Run 8). What a run changes is the steps taken, so beneath its two faces it hands back those and not the table.
-ghost use Rattle.std.specs.Prelude.{◌≡◌, ◌+◌, ◌*◌, ◌≤◌, ◌<◌, min, ◌||◌, length, ltb};
-ghost use Rattle.meaning.specs.Store.{lent, images};
+// (Run 8). The table is the caller's own, and only the steps taken are written into it.
+ghost use Rattle.std.specs.Prelude.{◌≡◌, ◌≤◌, ◌<◌, ℕ, suc, IfOk, false, true, eqb, get_or, length, ltb, min, set, take};
+ghost use Rattle.std.specs.List.{sum_by};
+ghost use Rattle.meaning.specs.Each.{every_of, some_of};
+ghost use Rattle.meaning.specs.Lends.{store_of, SameLent};
 ghost use Rattle.meaning.specs.Drives.{drives_of};
 ghost use Rattle.meaning.specs.State.{state_in, most_commands};
-ghost use Rattle.meaning.specs.Sizes.{store_wrong};
+ghost use Rattle.meaning.specs.Command as command;
+ghost use Rattle.meaning.specs.Pick.{place_number};
+ghost use Rattle.meaning.specs.Refusals.{told};
 ghost use Rattle.meaning.specs.Run as run;
-ghost use Rattle.board.specs.Changes.{RunTakes, refused_run};
-ghost use Rattle.board.specs.Opening.{seen_with, first_number};
-ghost use Rattle.board.specs.Alike.{Alike};
+ghost use Rattle.command.specs.Footprints.{footprint_of};
+ghost use Rattle.board.specs.RunAnswers.{refused_run, accepted_run};
+ghost use Rattle.board.specs.Ready.{ReadyIn};
+ghost use Rattle.board.specs.Sight.{blocking};
+ghost use Rattle.board.specs.Watching.{no_watch, Watching};
 
 use crate::{RECORDS, step, table};
-use chain::sizes;
+use command::touch::Footprint;
 use command::{sound, touch};
-use meaning::{LentDrives, Ran, Record};
+use meaning::lends::LentStore;
+use meaning::refusals::Refusal;
+use meaning::{Ran, Record};
 use units::rooms;
 
-// What a run answers and changes: its answer, and the steps taken of each of the 32 records after it, as they were on a refusal.
+// What a run by picks keeps of a command beside its record: what it touches, which no step changes, and how many earlier commands are known
+// not to block it. A command only ever comes nearer to its end, so one that once did not block a place never blocks it again.
 #[derive(Clone, Copy)]
-pub struct RanTaken {
-    pub ran: Ran,
-    pub taken: [u32; 32],
+pub struct Watch {
+    pub footprint: Footprint,
+    pub searched: usize,
 }
 
-// What a run sees of the records in use before it begins: whether one is bad, and the steps that are left of them.
-#[derive(Clone, Copy)]
-pub struct Seen {
-    pub left: u64,
-    pub spoiled: bool,
-}
-
-// One record more is seen: whether it is bad, and the steps that are left of it. One that is not in use changes nothing.
-fn with_record(seen: Seen, in_use: bool, bad: bool, left: u32) -> Seen
-    requires { seen.left ≤ 4_294_967_296 * 4_294_967_295 }
-    ensures value { result ≡ seen_with in_use bad left seen }
-    ensures within { result.left ≤ seen.left + 4_294_967_295 }
+// Numbers 1 and 9, which both runs test first. Where neither is given all footprints of the commands are known: the list of a command is
+// gone through once for both.
+fn opening(
+    store: &LentStore<'_>,
+    table: &[Record],
+    commands: usize,
+) -> Result<[Watch; 32], Refusal>
+    ensures number { told result ≡ run.run_number (drives_of store.now.drives) commands (state_in (store_of store.now) table.now) }
+    ensures watching { IfOk result (λ watches. Watching commands table.now watches) }
 {
-    if !in_use {
-        return seen;
+    if table::wrong_size(store, table) {
+        return Err(Refusal::WrongSize);
     }
-    Seen {
-        left: seen.left + left as u64,
-        spoiled: seen.spoiled | bad,
+    if RECORDS < commands {
+        return Err(Refusal::Spoiled);
     }
-}
-
-// Number 1: memory or an image of a wrong size, or a table of so many records that is too short.
-fn sizes_wrong(
-    memory: &[u8],
-    image0: &[u8],
-    image1: &[u8],
-    image2: &[u8],
-    image3: &[u8],
-    l: LentDrives,
-    length: usize,
-) -> bool
-    ensures { result ≡ (store_wrong (drives_of l) (lent memory.now (images image0.now image1.now image2.now image3.now)) || ltb length most_commands) }
-{
-    if sizes::sizes_wrong(memory, image0, image1, image2, image3, l) {
-        return true;
+    let size = store.memory.len() as u64;
+    let rooms = rooms::rooms_of(store.drives);
+    let mut watches = [Watch {
+        footprint: touch::no_footprint(),
+        searched: 0,
+    }; 32];
+    for (place, r) in table[..commands].iter().enumerate() {
+        let judged = sound::judge(size, rooms, *r);
+        if judged.bad {
+            return Err(Refusal::Spoiled);
+        }
+        watches[place].footprint = judged.footprint;
     }
-    length < RECORDS
-}
-
-// Numbers 1 and 9, which both runs test first.
-fn first_number(
-    memory: &[u8],
-    image0: &[u8],
-    image1: &[u8],
-    image2: &[u8],
-    image3: &[u8],
-    l: LentDrives,
-    length: usize,
-    spoiled: bool,
-) -> u8
-    ensures { result ≡ first_number (drives_of l) length spoiled (lent memory.now (images image0.now image1.now image2.now image3.now)) }
-{
-    if sizes_wrong(memory, image0, image1, image2, image3, l, length) {
-        return 1;
-    }
-    if spoiled {
-        return 9;
-    }
-    0
+    Ok(watches)
 }
 
 // A refusal: zero counts and "not finished".
@@ -97,225 +76,141 @@ pub fn refused(number: u8) -> Ran
     }
 }
 
-// How many records a number of commands can mean: a table holds 32 and no more.
-pub fn in_table(commands: usize) -> usize
-    ensures { result ≡ min commands 32 }
+// All of these commands are finished.
+fn all_finished(records: &[Record]) -> bool
+    ensures { result ≡ every_of command.finished records.now }
 {
-    if commands < RECORDS {
-        commands
-    } else {
-        RECORDS
+    records.iter().all(|r| command::finished(*r))
+}
+
+// The answer of a run that was not refused, by its counts and the commands as it leaves them.
+fn accepted(steps: u64, refused: u64, records: &[Record]) -> Ran
+    ensures { result ≡ accepted_run steps refused (every_of command.finished records.now) }
+{
+    Ran {
+        steps,
+        refused,
+        number: 0,
+        finished: all_finished(records),
     }
 }
 
-// The steps of a chain, from its start: the sum of the steps of its commands (Run 6).
-pub fn chain_steps(table: [Record; 32], commands: usize) -> u64
-    ensures { result ≡ run.chain_steps table commands }
+// The steps of these commands, from their start.
+fn steps_of_all(records: &[Record]) -> u64
+    requires { length records.now ≤ most_commands }
+    ensures { result ≡ sum_by command.steps_of records.now }
 {
-    let last = in_table(commands);
-    let mut k = 0;
-    let mut sum: u64 = 0;
-    while k < last {
-        sum += command::steps_of(table[k]) as u64;
-        k += 1;
-    }
-    sum
+    records
+        .iter()
+        .map(|r| u64::from(command::steps_of(*r)))
+        .sum()
 }
 
-// The smaller of what is left of a budget and what is left of a command.
-fn fewer(budget: u64, left: u32) -> u32
-    ensures { result ≡ min budget left }
+// The steps of a chain, from its start: the sum of the steps of its commands, of 32 at most and of no more than the table has (Run 6).
+pub fn chain_steps(table: &[Record], commands: usize) -> u64
+    ensures { result ≡ run.chain_steps table.now (min commands most_commands) }
 {
-    if budget < left as u64 {
-        budget as u32
-    } else {
-        left
-    }
+    let last = commands.min(RECORDS).min(table.len());
+    steps_of_all(&table[..last])
 }
 
-// How many picks, from one on, name the same place, as far as it has steps left.
-fn picks_alike(picks: &[u8], from: usize, left: u32) -> u32
-    requires { (from < length picks.now) × (1 ≤ left) }
-    ensures { Alike picks.now from left result }
+// The command at a place takes the steps that are left of it, but no more than so many: how many it took.
+fn take_within(store: &mut LentStore<'_>, table: &mut [Record], place: usize, most: u64) -> u32
+    requires { (place < length table.old) × ((n : ℕ) → n ≤ command.remaining (get_or table.old place command.no_record) → ReadyIn n (get_or table.old place command.no_record) (store_of store.old)) }
+    ensures same { SameLent store.old store.new }
+    ensures many { result ≡ min most (command.remaining (get_or table.old place command.no_record)) }
+    ensures record { table.new ≡ set table.old place (run.advanced result (get_or table.old place command.no_record)) }
+    ensures moved { store_of store.new ≡ run.steps_done (drives_of store.old.drives) result (get_or table.old place command.no_record) (store_of store.old) }
 {
-    let place = picks[from];
-    let most = fewer((picks.len() - from) as u64, left);
-    let mut n = 1;
-    while n < most {
-        if picks[from + n as usize] != place {
-            return n;
-        }
-        n += 1;
-    }
+    let n = most.min(u64::from(command::remaining(table[place]))) as u32;
+    step::take_steps(store, &table[place], n);
+    table::advance(&mut table[place], n);
     n
 }
 
-// A run by picks beneath both faces: `length` is how many records the caller's table has, of which these are the first. All loops that
-// read the table stand here, since a table that is passed on is copied. What two commands touch does not change with their steps, and a
-// command only ever comes nearer to its end: an earlier command that once did not block a place never blocks it again. So the search of
-// a pick goes on where the last one at its place stopped: `searched` holds how many earlier commands are known not to block it, and all
-// footprints are worked out before the first pick. Only where two of them meet are the ranges of both tested. Picks in a row at a place
-// that may go take their steps at once.
-pub fn picks_taken<'a>(
-    memory: &'a mut [u8],
-    image0: &'a mut [u8],
-    image1: &'a mut [u8],
-    image2: &'a mut [u8],
-    image3: &'a mut [u8],
-    l: LentDrives,
-    table: [Record; 32],
-    length: usize,
-    commands: usize,
-    picks: &'a [u8],
-) -> RanTaken
-    ensures { RunTakes (drives_of l) commands (run.by_picks (drives_of l) commands picks.now) length (state_in (lent memory.old (images image0.old image1.old image2.old image3.old)) table) result (lent memory.new (images image0.new image1.new image2.new image3.new)) }
+// An earlier command blocks a later one: it is unfinished, and they conflict. Only where their footprints meet are their ranges tested.
+fn blocks(earlier: &Record, touched: Footprint, later: &Record, wanted: Footprint) -> bool
+    requires { (touched ≡ footprint_of earlier.now) × (wanted ≡ footprint_of later.now) }
+    ensures { result ≡ blocking later.now earlier.now }
 {
-    let mut taken = [0u32; 32];
-    let mut footprints = [touch::no_footprint(); 32];
-    let mut seen = Seen {
-        left: 0,
-        spoiled: RECORDS < commands,
-    };
-    let rooms = rooms::rooms_of(l);
-    let mut k = 0;
-    while k < RECORDS {
-        let r = table[k];
-        taken[k] = r.taken;
-        let j = sound::judge(memory.len() as u64, rooms, r);
-        let f = j.footprint;
-        footprints[k] = f;
-        seen = with_record(seen, k < commands, j.bad, command::remaining(r));
-        k += 1;
-    }
-    let number = first_number(
-        memory,
-        image0,
-        image1,
-        image2,
-        image3,
-        l,
-        length,
-        seen.spoiled,
-    );
-    if number != 0 {
-        return RanTaken {
-            ran: refused(number),
-            taken,
-        };
-    }
-    let mut searched = [0usize; 32];
-    let mut steps: u64 = 0;
-    let mut passed: u64 = 0;
-    let mut next = 0;
-    'picks: while next < picks.len() {
-        let at = next;
-        let place = picks[at] as usize;
-        next += 1;
-        if commands <= place {
-            passed += 1;
-            continue;
-        }
-        let r = table::with_taken(table[place], taken[place]);
-        if command::finished(r) {
-            passed += 1;
-            continue;
-        }
-        let wanted = footprints[place];
-        let mut earlier = searched[place];
-        while earlier < place {
-            let e = footprints[earlier];
-            if e.steps <= taken[earlier] {
-                earlier += 1;
-                continue;
-            }
-            if !touch::footprints_meet(e, wanted) {
-                earlier += 1;
-                continue;
-            }
-            if touch::ranges_conflict(table[earlier], table[place]) {
-                searched[place] = earlier;
-                passed += 1;
-                continue 'picks;
-            }
-            earlier += 1;
-        }
-        searched[place] = earlier;
-        let n = picks_alike(picks, at, command::remaining(r));
-        step::take_steps(memory, image0, image1, image2, image3, l, r, n);
-        taken[place] = r.taken + n;
-        steps += n as u64;
-        next = at + n as usize;
-    }
-    let ran = Ran {
-        steps,
-        refused: passed,
-        number: 0,
-        finished: steps == seen.left,
-    };
-    RanTaken { ran, taken }
+    earlier.taken < touched.steps
+        && touch::footprints_meet(touched, wanted)
+        && touch::ranges_conflict(*earlier, *later)
 }
 
-// A run as written beneath both faces: each command in turn as far as the budget goes, always the earliest unfinished one (Run 5).
-pub fn written_taken<'a>(
-    memory: &'a mut [u8],
-    image0: &'a mut [u8],
-    image1: &'a mut [u8],
-    image2: &'a mut [u8],
-    image3: &'a mut [u8],
-    l: LentDrives,
-    table: [Record; 32],
-    length: usize,
+// The search for an earlier command that blocks the one at a place goes on where the last one at this place stopped: how far it gets, which
+// is to the place itself where nothing blocks it.
+fn search_on(table: &[Record], watches: &[Watch], place: usize) -> usize
+    requires { (place < most_commands) × (most_commands ≤ length table.now) × Watching (suc place) table.now watches.now }
+    ensures far { result ≤ place }
+    ensures passed { some_of (blocking (get_or table.now place command.no_record)) (take result table.now) ≡ false }
+    ensures stopped { result < place → blocking (get_or table.now place command.no_record) (get_or table.now result command.no_record) ≡ true }
+{
+    let Watch { footprint, searched } = watches[place];
+    for earlier in searched..place {
+        if blocks(&table[earlier], watches[earlier].footprint, &table[place], footprint) {
+            return earlier;
+        }
+    }
+    place
+}
+
+// The command at a place may take a step: it is in use, it is not finished, and no earlier one blocks it.
+fn may_go(table: &[Record], watches: &mut [Watch], commands: usize, place: usize) -> bool
+    requires { (commands ≤ most_commands) × (most_commands ≤ length table.now) × Watching commands table.now watches.old }
+    ensures free { result ≡ eqb (place_number table.now commands place) 0 }
+    ensures watching { Watching commands table.now watches.new }
+{
+    if commands <= place || command::finished(table[place]) {
+        return false;
+    }
+    let searched = search_on(table, watches, place);
+    watches[place].searched = searched;
+    searched == place
+}
+
+// A run by picks: a refused pick is passed over, and counted; on 1 and 9 nothing is changed. Picks in a row at one place are taken together:
+// where the first of them may go, so may all that follow until the command is finished, and where it has to be passed over, so have all.
+pub fn run_picks(
+    store: &mut LentStore<'_>,
+    table: &mut [Record],
+    commands: usize,
+    picks: &[u8],
+) -> Ran
+    ensures same { SameLent store.old store.new }
+    ensures gives { run.RunGives (drives_of store.old.drives) commands (run.by_picks (drives_of store.old.drives) commands picks.now) (state_in (store_of store.old) table.old) result (state_in (store_of store.new) table.new) }
+{
+    let mut watches = match opening(store, table, commands) {
+        Ok(watches) => watches,
+        Err(refusal) => return refused(u8::from(refusal)),
+    };
+    let mut steps: u64 = 0;
+    for alike in picks.chunk_by(|a, b| a == b) {
+        let place = usize::from(alike[0]);
+        if may_go(table, &mut watches, commands, place) {
+            steps += u64::from(take_within(store, table, place, alike.len() as u64));
+        }
+    }
+    accepted(steps, picks.len() as u64 - steps, &table[..commands])
+}
+
+// A run as written, within a step budget: each command in turn as far as the budget goes, always the earliest unfinished one (Run 5). On 1
+// and 9 nothing is changed.
+pub fn run_written(
+    store: &mut LentStore<'_>,
+    table: &mut [Record],
     commands: usize,
     budget: u64,
-) -> RanTaken
-    ensures { RunTakes (drives_of l) commands (run.as_written (drives_of l) commands budget) length (state_in (lent memory.old (images image0.old image1.old image2.old image3.old)) table) result (lent memory.new (images image0.new image1.new image2.new image3.new)) }
+) -> Ran
+    ensures same { SameLent store.old store.new }
+    ensures gives { run.RunGives (drives_of store.old.drives) commands (run.as_written (drives_of store.old.drives) commands budget) (state_in (store_of store.old) table.old) result (state_in (store_of store.new) table.new) }
 {
-    let mut taken = [0u32; 32];
-    let mut seen = Seen {
-        left: 0,
-        spoiled: RECORDS < commands,
-    };
-    let rooms = rooms::rooms_of(l);
-    let mut k = 0;
-    while k < RECORDS {
-        let r = table[k];
-        taken[k] = r.taken;
-        let room = rooms::room_of(rooms, r.unit);
-        let bad = sound::bad_record(memory.len() as u64, room, table[k]);
-        seen = with_record(seen, k < commands, bad, command::remaining(r));
-        k += 1;
-    }
-    let number = first_number(
-        memory,
-        image0,
-        image1,
-        image2,
-        image3,
-        l,
-        length,
-        seen.spoiled,
-    );
-    if number != 0 {
-        return RanTaken {
-            ran: refused(number),
-            taken,
-        };
+    if let Err(refusal) = opening(store, table, commands) {
+        return refused(u8::from(refusal));
     }
     let mut left = budget;
-    let mut at = 0;
-    while at < commands {
-        let r = table[at];
-        let n = fewer(left, command::remaining(r));
-        step::take_steps(memory, image0, image1, image2, image3, l, r, n);
-        taken[at] = r.taken + n;
-        left -= n as u64;
-        at += 1;
+    for at in 0..commands {
+        left -= u64::from(take_within(store, table, at, left));
     }
-    let ran = Ran {
-        steps: budget - left,
-        refused: 0,
-        number: 0,
-        finished: seen.left <= budget,
-    };
-    RanTaken { ran, taken }
+    accepted(budget - left, 0, &table[..commands])
 }

@@ -1,24 +1,26 @@
 // Steps of a command, one or several at once: its sectors move between memory and the image of its unit, and the last step closes the
 // command. Sectors that follow each other lie side by side on the disk, and in memory either side by side too or in the ranges of a link
 // list. One function goes from the unit to its image; all beneath it have one image, whatever the other units hold.
-ghost use Rattle.std.specs.Prelude.{◌≡◌, [], map, ◌+◌, ◌-◌, ◌*◌, ◌≤◌, min, length, get_or, take, drop, ℕ};
+ghost use Rattle.std.specs.Prelude.{◌≡◌, [], map, ◌+◌, ◌-◌, ◌*◌, ◌≤◌, min, true, length, take, drop, ℕ};
 ghost use Rattle.std.proofs.lemmas.List.Edits.{sets};
 ghost use Rattle.meaning.specs.Sectors.{sector_bytes};
 ghost use Rattle.meaning.specs.Drives.{drives_of};
-ghost use Rattle.meaning.specs.Store.{Store, lent, images, move};
+ghost use Rattle.meaning.specs.Store.{Store, move};
+ghost use Rattle.meaning.specs.Lends.{store_of, SameLent};
 ghost use Rattle.meaning.specs.Links.{range_of};
 ghost use Rattle.meaning.specs.Pieces.{piece_of};
-ghost use Rattle.meaning.specs.Command.{remaining};
+ghost use Rattle.meaning.specs.Command.{remaining, transfers};
 ghost use Rattle.meaning.specs.Step as step;
 ghost use Rattle.meaning.proofs.All.{All};
 ghost use Rattle.meaning.proofs.Conditions.{Inside};
 ghost use Rattle.meaning.specs.Run.{steps_done};
 ghost use Rattle.board.specs.OneUnit.{on_unit};
-ghost use Rattle.board.specs.Ready.{Ready};
+ghost use Rattle.board.specs.Ready.{Ready, ReadyIn};
 ghost use Rattle.board.specs.Moved.{sectors_moved, part_move, piece_move, window_moved};
 
 use chain::links;
 use command::closing;
+use meaning::lends::LentStore;
 use meaning::{LentDrives, Link, Record};
 
 // The bytes of a sector, as a place in memory or image counts them.
@@ -49,11 +51,11 @@ fn copy_sectors(src: &[u8], from: usize, dst: &mut [u8], to: usize, n: usize)
 }
 
 // The close: bytes 0 to 3 of the command's own IOPB, byte 0 from the copied one.
-fn close(memory: &mut [u8], l: LentDrives, r: Record)
-    requires { r.iopb + 4 ≤ length memory.old }
-    ensures { memory.new ≡ sets memory.old r.iopb (step.closing (drives_of l) r) }
+fn close(memory: &mut [u8], l: LentDrives, r: &Record)
+    requires { r.now.iopb + 4 ≤ length memory.old }
+    ensures { memory.new ≡ sets memory.old r.now.iopb (step.closing (drives_of l) r.now) }
 {
-    let posted = closing::posted(l, r);
+    let posted = closing::posted(l, *r);
     let at = r.iopb as usize;
     memory[at] = posted.byte0;
     memory[at + 1] = posted.code;
@@ -155,87 +157,54 @@ fn move_plain(
     copy_sectors(memory, at, image, disk, sectors);
 }
 
-// The sectors of the next n steps of a command move between memory and the image of its own unit. A command that is no transfer moves none,
-// whatever its unit. The functions beneath get numbers and no record, and the list is taken out of the record only where there is one: to
-// copy its 256 bytes four times over, or for a command that has none, costs time.
-fn move_on_unit(
-    memory: &mut [u8],
-    image0: &mut [u8],
-    image1: &mut [u8],
-    image2: &mut [u8],
-    image3: &mut [u8],
-    r: Record,
-    n: u32,
-)
-    requires { (1 ≤ n) × Ready n r (length memory.old) (length (get_or (images image0.old image1.old image2.old image3.old) r.unit [])) }
-    ensures { (lent memory.new (images image0.new image1.new image2.new image3.new)) ≡ sectors_moved n r (lent memory.old (images image0.old image1.old image2.old image3.old)) }
+// The sectors of the next n steps of a transfer move between memory and this image, which is that of its own unit.
+fn move_sectors(memory: &mut [u8], image: &mut [u8], r: &Record, n: u32)
+    requires { (transfers r.now ≡ true) × Ready n r.now (length memory.old) (length image.old) }
+    ensures { (s : Store) → on_unit r.now.unit memory.new image.new s ≡ sectors_moved n r.now (on_unit r.now.unit memory.old image.old s) }
 {
-    if !command::transfers(r) {
-        return;
-    }
-    let reading = command::reads(r);
+    let reading = command::reads(*r);
     let disk = SECTOR_BYTES * r.sector as usize;
     let lo = SECTOR_BYTES * r.taken as usize;
     let sectors = n as usize;
-    let hi = lo + SECTOR_BYTES * sectors;
-    let at = r.address as usize + lo;
-    let on_disk = disk + lo;
-    if r.unit == 0 {
-        if r.ranges == 0 {
-            move_plain(memory, image0, reading, at, on_disk, sectors);
-            return;
-        }
-        let list = r.list;
-        move_pieces(memory, image0, reading, disk, list, r.ranges, lo, hi);
-        return;
-    }
-    if r.unit == 1 {
-        if r.ranges == 0 {
-            move_plain(memory, image1, reading, at, on_disk, sectors);
-            return;
-        }
-        let list = r.list;
-        move_pieces(memory, image1, reading, disk, list, r.ranges, lo, hi);
-        return;
-    }
-    if r.unit == 2 {
-        if r.ranges == 0 {
-            move_plain(memory, image2, reading, at, on_disk, sectors);
-            return;
-        }
-        let list = r.list;
-        move_pieces(memory, image2, reading, disk, list, r.ranges, lo, hi);
-        return;
-    }
     if r.ranges == 0 {
-        move_plain(memory, image3, reading, at, on_disk, sectors);
+        let at = r.address as usize + lo;
+        move_plain(memory, image, reading, at, disk + lo, sectors);
         return;
     }
+    let hi = lo + SECTOR_BYTES * sectors;
     let list = r.list;
-    move_pieces(memory, image3, reading, disk, list, r.ranges, lo, hi);
+    move_pieces(memory, image, reading, disk, list, r.ranges, lo, hi);
+}
+
+// The sectors of the next n steps of a command move between memory and the image of its own unit. A command that is no transfer moves none,
+// whatever its unit.
+fn move_on_unit(store: &mut LentStore<'_>, r: &Record, n: u32)
+    requires { (1 ≤ n) × ReadyIn n r.now (store_of store.old) }
+    ensures same { SameLent store.old store.new }
+    ensures done { store_of store.new ≡ sectors_moved n r.now (store_of store.old) }
+{
+    if !command::transfers(*r) {
+        return;
+    }
+    match r.unit {
+        0 => move_sectors(store.memory, store.image0, r, n),
+        1 => move_sectors(store.memory, store.image1, r, n),
+        2 => move_sectors(store.memory, store.image2, r, n),
+        _ => move_sectors(store.memory, store.image3, r, n),
+    }
 }
 
 // The next n steps of a command: its sectors move, and the last step then closes the command. Nothing else closes it.
-pub(crate) fn take_steps(
-    memory: &mut [u8],
-    image0: &mut [u8],
-    image1: &mut [u8],
-    image2: &mut [u8],
-    image3: &mut [u8],
-    l: LentDrives,
-    r: Record,
-    n: u32,
-)
-    requires { (n ≤ remaining r) × Ready n r (length memory.old) (length (get_or (images image0.old image1.old image2.old image3.old) r.unit [])) }
-    ensures { (lent memory.new (images image0.new image1.new image2.new image3.new)) ≡ steps_done (drives_of l) n r (lent memory.old (images image0.old image1.old image2.old image3.old)) }
+pub(crate) fn take_steps(store: &mut LentStore<'_>, r: &Record, n: u32)
+    requires { (n ≤ remaining r.now) × ReadyIn n r.now (store_of store.old) }
+    ensures same { SameLent store.old store.new }
+    ensures done { store_of store.new ≡ steps_done (drives_of store.old.drives) n r.now (store_of store.old) }
 {
     if n == 0 {
         return;
     }
-    move_on_unit(memory, image0, image1, image2, image3, r, n);
-    let left = command::remaining(r) - n;
-    if left == 0 {
-        close(memory, l, r);
-        return;
+    move_on_unit(store, r, n);
+    if n == command::remaining(*r) {
+        close(store.memory, store.drives, r);
     }
 }

@@ -18,4 +18,4 @@ bounds-memory-at-4 c = simp length-set (omega arith)
 pub returns : goal.returns
 returns c = let a = c.args in
     let s = c.posted-posted.result in
-    four_sets a.memory.now a.r.iopb s.byte0 s.code s.drive s.internal ∙ ap (sets a.memory.now a.r.iopb) c.posted-posted.ensures
+    four_sets a.memory.now a.r.now.iopb s.byte0 s.code s.drive s.internal ∙ ap (sets a.memory.now a.r.now.iopb) c.posted-posted.ensures

@@ -1,28 +1,46 @@
 -- `board::step::take_steps` meets its contract: the sectors' moves, then the close where no step is left.
-use mathlib.Core.Path.{ap, ◌∙◌}
+use mathlib.Core.Path.{◌≡◌, sym, ap, ◌∙◌}
 use Prim.Native.Nat.{ℕ}
 use native.Mathlib.Omega.{arith}
 use mathlib.Core.List.{List}
-use Rattle.meaning.specs.Store.{lent, images}
+use lib.ListN.{length}
+use lib.Seq.{sets}
+use Rattle.meaning.specs.declared.LentDrives.{LentDrives}
+use Rattle.meaning.specs.declared.lends.LentStore.{LentStore}
+use Rattle.meaning.specs.Step.{closing}
+use Rattle.meaning.specs.Store.{Store, memory, lent, images}
 use Rattle.meaning.specs.Drives.{drives_of}
-use Rattle.board.proofs.Moving.{no_steps, closed_done, open_done}
+use Rattle.meaning.specs.Lends.{store_of}
+use Rattle.board.proofs.Moving.{no_steps, closed_done, open_done, sectors_long}
 use Rattle.board.proofs.step.take_steps.Goals as goal
 
-pub returns-then-n-eq0 : goal.returns-then-n-eq0
-returns-then-n-eq0 c =
-    let a = c.args in
-    no_steps (drives_of a.l) a.n a.r (lent a.memory.now (images a.image0.now a.image1.now a.image2.now a.image3.now)) c.if-n-eq0.true
+-- the images as they are lent
+abbrev is : LentStore → List (List ℕ)
+is s = images s.image0.now s.image1.now s.image2.now s.image3.now
 
-pub returns-then-left-eq0 : goal.returns-then-left-eq0
-returns-then-left-eq0 c =
+pub returns-then-n-eq0-clause-done : goal.returns-then-n-eq0-clause-done
+returns-then-n-eq0-clause-done c =
+    let a = c.args in
+    no_steps (drives_of a.store.now.drives) a.n a.r.now (store_of a.store.now) c.if-n-eq0.true
+
+pub close-requires : goal.close-requires
+close-requires c =
+    let a = c.args in
+    let long = ap (λ (s : Store). length (s memory)) c.move_on_unit.ensures.done ∙ sectors_long a.n a.r.now (store_of a.store.now) memory in
+    omega (arith, c.requires.1.status, long)
+
+pub returns-then-n-remaining-clause-done : goal.returns-then-n-remaining-clause-done
+returns-then-n-remaining-clause-done c =
     let a = c.args in
     let v = c.move_on_unit in
-    let few = c.requires.0 in
-    ap (λ (x : List ℕ). lent x (images v.new.image0 v.new.image1 v.new.image2 v.new.image3)) c.close.ensures
-    ∙ closed_done (drives_of a.l) a.n a.r (lent a.memory.now (images a.image0.now a.image1.now a.image2.now a.image3.now)) v.new.memory (images v.new.image0 v.new.image1 v.new.image2 v.new.image3) v.ensures (omega (arith, c.if-n-eq0.false)) (omega (arith, few, c.if-left-eq0.true, c.remaining.ensures))
+    let u = v.new.store in
+    let d = drives_of a.store.now.drives in
+    ap (λ (x : List ℕ). lent x (is u)) c.close.ensures
+    ∙ ap (λ (l : LentDrives). lent (sets u.memory.now a.r.now.iopb (closing (drives_of l) a.r.now)) (is u)) v.ensures.same.5
+    ∙ closed_done d a.n a.r.now (store_of a.store.now) u.memory.now (is u) v.ensures.done (omega (arith, c.if-n-eq0.false)) (c.if-n-remaining.true ∙ c.remaining.ensures)
 
-pub returns : goal.returns
-returns c =
+pub returns-else-n-remaining-clause-done : goal.returns-else-n-remaining-clause-done
+returns-else-n-remaining-clause-done c =
     let a = c.args in
-    let v = c.move_on_unit in
-    open_done (drives_of a.l) a.n a.r (lent a.memory.now (images a.image0.now a.image1.now a.image2.now a.image3.now)) v.new.memory (images v.new.image0 v.new.image1 v.new.image2 v.new.image3) v.ensures c.requires.0 (λ q. c.if-left-eq0.false (omega (arith, q, c.remaining.ensures)))
+    let u = c.move_on_unit.new.store in
+    open_done (drives_of a.store.now.drives) a.n a.r.now (store_of a.store.now) u.memory.now (is u) c.move_on_unit.ensures.done c.requires.0 (λ q. c.if-n-remaining.false (q ∙ sym c.remaining.ensures))

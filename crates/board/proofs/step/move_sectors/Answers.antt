@@ -1,0 +1,22 @@
+-- `board::step::move_sectors` meets its contract: without a list the sectors lie in one piece, else in the pieces of the list.
+use mathlib.Core.Path.{sym}
+use Rattle.board.proofs.Moving.{plain_room, listed_room, plain_done, listed_done}
+use Rattle.board.proofs.step.move_sectors.Goals as goal
+
+pub move_plain-requires : goal.move_plain-requires
+move_plain-requires c = let a = c.args in
+    plain_room a.n a.r.now a.memory.now a.image.now c.requires.0 c.requires.1 c.if-r-eq0.true
+
+pub move_pieces-requires : goal.move_pieces-requires
+move_pieces-requires c = let a = c.args in
+    listed_room a.n a.r.now a.memory.now a.image.now c.requires.0 c.requires.1 c.if-r-eq0.false
+
+pub returns-then-r-eq0 : goal.returns-then-r-eq0
+returns-then-r-eq0 c = let a = c.args in
+    let v = c.move_plain in
+    plain_done a.n a.r.now a.memory.now a.image.now c.requires.0 c.requires.1 c.reads-reading.result c.reads-reading.ensures v.new.memory v.new.image c.if-r-eq0.true v.ensures
+
+pub returns : goal.returns
+returns c = let a = c.args in
+    let v = c.move_pieces in
+    listed_done a.n a.r.now a.memory.now a.image.now c.requires.0 c.requires.1 c.reads-reading.result c.reads-reading.ensures v.new.memory v.new.image c.if-r-eq0.false v.ensures
