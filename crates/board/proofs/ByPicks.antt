@@ -8,11 +8,17 @@ use native.Mathlib.Numerals.{add-one}
 use native.Mathlib.Omega.{arith}
 use mathlib.Core.Bool.{Bool, true, false}
 use mathlib.Core.List.{List, [], ◌∷◌, ◌++◌}
-use lib.ListN.{length, get_or, set, take}
+use lib.ListN.{length, get_or, set, take, get_or-append}
 use lib.Seq.{set-get_or, set-set, get_or-set_same}
 use lib.Dec.{eqb}
 use borrow.Author.Tests.{eq-eqb, ne_eqb, eqb-true}
+use denote.Ref.{Bor}
+use denote.Param.Members.{Mut}
 use Rattle.std.specs.List.{AllAdjacentBelow}
+use Rattle.std.specs.Iterator.{Yields}
+use Rattle.std.specs.Fn.{ComputesOnPairs}
+use Rattle.std.specs.Slice.Iter.{chunk_by_steps, chunk_by_callee}
+use Rattle.std.specs.declared.slice.ChunkBy.{ChunkBy}
 use Rattle.meaning.specs.Drives.{Drives}
 use Rattle.meaning.specs.declared.Record.{Record}
 use Rattle.meaning.specs.Each.{some_of}
@@ -50,12 +56,16 @@ search_decides t n p k in_use inside open-yet l clear stopped = go (means_lt k p
         let e : k ≡ p = omega arith in
         eq-eqb k p e ∙ ap (λ (x : ℕ). eqb x 0) (sym (may_go t n p in_use open-yet (ap (λ (x : ℕ). some_of (blocking (get_or t p no_record)) (take x t)) (sym e) ∙ clear)))
 
--- a part of the picks whose neighbours are equal names one place
-pub one_place : (x : List ℕ) → AllAdjacentBelow (λ y z. eqb y z ≡ true) x (length x) → (k : ℕ) → k < length x → get_or x k 0 ≡ get_or x 0 0
-one_place x adjacent zero h = refl
-one_place x adjacent (suc k) h =
-    let next = eqb-true (get_or x k 0) (get_or x (k + 1) 0) (adjacent k 0 (omega arith)) in
-    ap (λ (j : ℕ). get_or x j 0) (sym (add-one k)) ∙ sym next ∙ one_place x adjacent k (omega arith)
+-- the next picks whose neighbours are equal name one place
+one_place : (x rest : List ℕ) → AllAdjacentBelow (λ y z. eqb y z ≡ true) (x ++ rest) (length x) → (k : ℕ) → k < length x → get_or x k 0 ≡ get_or x 0 0
+one_place x rest adjacent zero h = refl
+one_place x rest adjacent (suc k) h =
+    let next = eqb-true (get_or (x ++ rest) k 0) (get_or (x ++ rest) (k + 1) 0) (adjacent k 0 (omega arith)) in
+    ap (λ (j : ℕ). get_or x j 0) (sym (add-one k))
+    ∙ sym (get_or-append x rest 0 (k + 1) (omega arith))
+    ∙ sym next
+    ∙ get_or-append x rest 0 k (omega arith)
+    ∙ one_place x rest adjacent k (omega arith)
 
 -- `rest` are left of the picks ps, from the store s₀ and the table t₀ on; s and t are store and table now
 pub record PicksLeft (d : Drives) (n : ℕ) (ps : List ℕ) (s₀ : Store) (t₀ : List Record) (s : Store) (t : List Record) (ws : List Watch) (steps : ℕ) (rest : List ℕ) : Type 0 where
@@ -172,3 +182,24 @@ module _ (d : Drives) (n : ℕ) (ps : List ℕ) (s₀ : Store) (t₀ : List Reco
         (ap (λ (y : Record). steps_done d c y (step d r s)) there)
         (ap (λ (y : Record). set t₁ p (advanced c y)) there ∙ set-set t p (stepped r) (advanced c (stepped r)))
         (omega arith) w₂
+
+    -- the next picks up to the first that names another place, as the code cuts them off
+    module _ (s : Store) (t : List Record) (from : List Watch) (steps : ℕ) (all x rest : List ℕ) (cut : all ≡ x ++ rest) (adjacent : AllAdjacentBelow (λ y z. eqb y z ≡ true) all (length x)) (ep : p ≡ get_or x 0 0)
+        (w : PicksLeft d n ps s₀ t₀ s t from steps all) (watched : Watching n t ws) where
+      name-it : (k : ℕ) → k < length x → get_or x k 0 ≡ p
+      name-it k h = one_place x rest (subst (λ (y : List ℕ). AllAdjacentBelow (λ y z. eqb y z ≡ true) y (length x)) cut adjacent) k h ∙ sym ep
+
+      from-here : Left s t steps (x ++ rest)
+      from-here = subst (Left s t steps) cut (picks_watched s t from ws steps all w watched)
+
+      pub part_passed : (place_number t n p ≡ 0 → ⊥) → Left s t steps rest
+      part_passed h = row_passed x rest s t steps name-it h from-here
+
+      pub part_taken : place_number t n p ≡ 0 → (c : ℕ) → c ≡ min (length x) (remaining (here t)) → (s' : Store) → s' ≡ steps_done d c (here t) s → (t' : List Record) → t' ≡ set t p (advanced c (here t)) → Left s' t' (steps + c) rest
+      part_taken z c e s' es t' et = same_left rest (sym es) (sym et) refl (row_taken x rest c s t steps name-it (λ _. z) e from-here)
+
+-- the parts of the picks go on to be cut by the same comparison
+module _ {F : Type 0} (g : Mut F (Bor ℕ × (Bor ℕ × Unit {0})) Bool) (e : ℕ → ℕ → Bool) where
+  pub still_compares : (s t : ChunkBy ℕ F) (xs : List (Bor (List ℕ))) → Yields (chunk_by_steps g) s xs t → ComputesOnPairs g e (chunk_by_callee s) → ComputesOnPairs g e (chunk_by_callee t)
+  still_compares s t [] y h = subst (λ (u : ChunkBy ℕ F). ComputesOnPairs g e (chunk_by_callee u)) y h
+  still_compares s t (x ∷ xs) y h = still_compares y.0 t xs y.2 (y.1.2 e h).0

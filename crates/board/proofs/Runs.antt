@@ -22,14 +22,11 @@ use Rattle.meaning.proofs.Rows.{pass, stop}
 use Rattle.meaning.proofs.Numbers.{sizes_store}
 use Rattle.command.specs.Data.{bad_in}
 use Rattle.command.proofs.Data.{bad_in_lem}
-use Rattle.board.specs.Refused.{refused_run}
+use Rattle.board.specs.RunAnswers.{refused_run, accepted_run}
 use Rattle.board.proofs.Picking.{over_most, by_records}
 
 abbrev pub tally : ℕ → ℕ → State → Tally
 tally steps refused s = record { steps = steps; refused = refused; state = s }
-
-abbrev answer : ℕ → ℕ → Bool → Ran
-answer steps refused finished = record { steps = steps; refused = refused; number = 0; finished = finished }
 
 -- ---- the numbers
 
@@ -82,16 +79,16 @@ module _ (d : Drives) (n : ℕ) (go : State → Tally) (s : State) where
     unfolding ran_to
     comes_to = stop _ _ _ (eq-eqb (run_number d n s) 0 e) ∙ g
 
-    pub reply_accepted : run_reply d n go s ≡ answer a b (all_finished u.table n)
+    pub reply_accepted : run_reply d n go s ≡ accepted_run a b (all_finished u.table n)
     unfolding run_reply
     reply_accepted =
         let y = comes_to in
         let f = stop (eqb (run_number d n s) 0) (all_finished (ran_to d n go s).state.table n) false (eq-eqb (run_number d n s) 0 e) ∙ ap (λ (x : Tally). all_finished x.state.table n) y in
         λ j. record { steps = (y j).steps; refused = (y j).refused; number = e j; finished = f j }
 
-    pub accepted_gives : (f : Bool) → f ≡ all_finished u.table n → RunGives d n go s (answer a b f) u
+    pub accepted_gives : (f : Bool) → f ≡ all_finished u.table n → RunGives d n go s (accepted_run a b f) u
     unfolding RunGives
-    accepted_gives f ef = (ap (answer a b) ef ∙ sym reply_accepted, sym (ap (λ (x : Tally). x.state) comes_to))
+    accepted_gives f ef = (ap (accepted_run a b) ef ∙ sym reply_accepted, sym (ap (λ (x : Tally). x.state) comes_to))
 
 -- ---- what is lent
 

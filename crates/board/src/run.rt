@@ -11,7 +11,7 @@ ghost use Rattle.meaning.specs.Pick.{place_number};
 ghost use Rattle.meaning.specs.Refusals.{told};
 ghost use Rattle.meaning.specs.Run as run;
 ghost use Rattle.command.specs.Footprints.{footprint_of};
-ghost use Rattle.board.specs.Refused.{refused_run};
+ghost use Rattle.board.specs.RunAnswers.{refused_run, accepted_run};
 ghost use Rattle.board.specs.Ready.{ReadyIn};
 ghost use Rattle.board.specs.Sight.{blocking};
 ghost use Rattle.board.specs.Watching.{no_watch, Watching};
@@ -26,10 +26,10 @@ use units::rooms;
 
 // What a run by picks keeps of a command beside its record: what it touches, which no step changes, and how many earlier commands are known
 // not to block it. A command only ever comes nearer to its end, so one that once did not block a place never blocks it again.
-#[derive(Clone, Copy)]
-pub struct Watch {
-    pub footprint: Footprint,
-    pub searched: usize,
+#[derive(Clone, Copy, Default)]
+struct Watch {
+    footprint: Footprint,
+    searched: usize,
 }
 
 // Numbers 1 and 9, which both runs test first. Where neither is given all footprints of the commands are known: the list of a command is
@@ -50,10 +50,7 @@ fn opening(
     }
     let size = store.memory.len() as u64;
     let rooms = rooms::rooms_of(store.drives);
-    let mut watches = [Watch {
-        footprint: touch::no_footprint(),
-        searched: 0,
-    }; 32];
+    let mut watches = [Watch::default(); 32];
     for (place, r) in table[..commands].iter().enumerate() {
         let judged = sound::judge(size, rooms, *r);
         if judged.bad {
@@ -76,6 +73,25 @@ pub fn refused(number: u8) -> Ran
     }
 }
 
+// All of these commands are finished.
+fn all_finished(records: &[Record]) -> bool
+    ensures { result ≡ every_of command.finished records.now }
+{
+    records.iter().all(|r| command::finished(*r))
+}
+
+// The answer of a run that was not refused, by its counts and the commands as it leaves them.
+fn accepted(steps: u64, refused: u64, records: &[Record]) -> Ran
+    ensures { result ≡ accepted_run steps refused (every_of command.finished records.now) }
+{
+    Ran {
+        steps,
+        refused,
+        number: 0,
+        finished: all_finished(records),
+    }
+}
+
 // The steps of these commands, from their start.
 fn steps_of_all(records: &[Record]) -> u64
     requires { length records.now ≤ most_commands }
@@ -93,13 +109,6 @@ pub fn chain_steps(table: &[Record], commands: usize) -> u64
 {
     let last = commands.min(RECORDS).min(table.len());
     steps_of_all(&table[..last])
-}
-
-// All of these commands are finished.
-fn all_finished(records: &[Record]) -> bool
-    ensures { result ≡ every_of command.finished records.now }
-{
-    records.iter().all(|r| command::finished(*r))
 }
 
 // The command at a place takes the steps that are left of it, but no more than so many: how many it took.
@@ -179,12 +188,7 @@ pub fn run_picks(
             steps += u64::from(take_within(store, table, place, alike.len() as u64));
         }
     }
-    Ran {
-        steps,
-        refused: picks.len() as u64 - steps,
-        number: 0,
-        finished: all_finished(&table[..commands]),
-    }
+    accepted(steps, picks.len() as u64 - steps, &table[..commands])
 }
 
 // A run as written, within a step budget: each command in turn as far as the budget goes, always the earliest unfinished one (Run 5). On 1
@@ -205,10 +209,5 @@ pub fn run_written(
     for at in 0..commands {
         left -= u64::from(take_within(store, table, at, left));
     }
-    Ran {
-        steps: budget - left,
-        refused: 0,
-        number: 0,
-        finished: all_finished(&table[..commands]),
-    }
+    accepted(budget - left, 0, &table[..commands])
 }

@@ -18,11 +18,7 @@ use Rattle.meaning.proofs.Told.{number_not_0}
 use Rattle.board.proofs.Runs.{same_lent, refused_gives, accepted_gives}
 use Rattle.board.proofs.Written.{WrittenLeft, written_begin, in_use_there, turn_ready, next_turn, all_written}
 use Rattle.board.proofs.run.run_written.Goals as goal
-use Rattle.board.proofs.run.run_written.Goals.{In_default, After-loop-at}
-
--- a run that is not refused has the number 0
-goes : (c : In_default) → let a = c.args in run_number (drives_of a.store.now.drives) a.commands (state_in (store_of a.store.now) a.table.now) ≡ 0
-goes c = sym c.opening.ensures.number ∙ ap told c.in_default.is
+use Rattle.board.proofs.run.run_written.Goals.{After-loop-at}
 
 pub returns-in-Err-clause-gives : goal.returns-in-Err-clause-gives
 returns-in-Err-clause-gives c = let a = c.args in
@@ -33,7 +29,7 @@ returns-in-Err-clause-gives c = let a = c.args in
 
 pub loop-at-init : goal.loop-at-init
 loop-at-init c = let a = c.args in
-    ((refl, refl, refl, refl, refl, refl), written_begin (drives_of a.store.now.drives) a.commands a.budget (store_of a.store.now) a.table.now (goes c))
+    ((refl, refl, refl, refl, refl, refl), written_begin (drives_of a.store.now.drives) a.commands a.budget (store_of a.store.now) a.table.now (sym c.in_default.ensures.number))
 
 pub take_within-requires : goal.take_within-requires
 take_within-requires c = let a = c.args in
@@ -58,11 +54,11 @@ there c = let a = c.args in
     let l = c.loop-at in
     in_use_there (drives_of a.store.now.drives) a.commands a.budget (store_of a.store.now) a.table.now (store_of l.store) l.table l.left l.at l.invariant.1
 
-pub slice_bounds-all_finished-end : goal.slice_bounds-all_finished-end
-slice_bounds-all_finished-end c = there (goal.at.slice_bounds-all_finished-end c).After-loop-at
+pub slice_bounds-accepted-end : goal.slice_bounds-accepted-end
+slice_bounds-accepted-end c = there (goal.at.slice_bounds-accepted-end c).After-loop-at
 
-pub slice_bounds-all_finished-end-2 : goal.slice_bounds-all_finished-end-2
-slice_bounds-all_finished-end-2 c = sym (length-take-le c.args.commands c.loop-at.table (there (goal.at.slice_bounds-all_finished-end-2 c).After-loop-at))
+pub slice_bounds-accepted-end-2 : goal.slice_bounds-accepted-end-2
+slice_bounds-accepted-end-2 c = sym (length-take-le c.args.commands c.loop-at.table (there (goal.at.slice_bounds-accepted-end-2 c).After-loop-at))
 
 pub returns-clause-gives : goal.returns-clause-gives
 unfolding all_finished
@@ -71,5 +67,6 @@ returns-clause-gives c = let a = c.args in
     let d = drives_of a.store.now.drives in
     let s = state_in (store_of a.store.now) a.table.now in
     let at-end : l.at ≡ a.commands = omega (arith, c.loop-at-test.false, l.auto.at-end) in
-    accepted_gives d a.commands (as_written d a.commands a.budget) s (a.budget - l.left) 0 (state_in (store_of l.store) l.table) (goes (goal.at.returns-clause-gives c).In_default)
-    (all_written d a.commands a.budget (store_of a.store.now) a.table.now (store_of l.store) l.table l.left l.at l.invariant.1 at-end) c.all_finished.result c.all_finished.ensures
+    subst (λ (x : Ran). RunGives d a.commands (as_written d a.commands a.budget) s x (state_in (store_of l.store) l.table)) (sym c.accepted.ensures)
+    (accepted_gives d a.commands (as_written d a.commands a.budget) s (a.budget - l.left) 0 (state_in (store_of l.store) l.table) (sym c.in_default.ensures.number)
+    (all_written d a.commands a.budget (store_of a.store.now) a.table.now (store_of l.store) l.table l.left l.at l.invariant.1 at-end) _ refl)
