@@ -1,23 +1,20 @@
 -- `board::run::opening` meets its contract: the rows of a run one after another, and of number 9 one record after another.
 use mathlib.Core.Path.{◌≡◌, refl, sym, ap, ◌∙◌, subst}
-use Prim.Native.Nat.{ℕ, ◌+◌, ◌≤◌, ◌<◌}
+use Prim.Native.Nat.{ℕ, ◌<◌}
 use native.Mathlib.Omega.{arith}
 use mathlib.Core.Bool.{true, false}
-use mathlib.Core.List.{List}
-use lib.ListN.{length, get_or, take, replicate}
-use borrow.Author.Rules.{rules}
+use lib.ListN.{length, get_or, take}
 use Rattle.meaning.specs.Drives.{drives_of}
 use Rattle.meaning.specs.declared.Record.{Record}
 use Rattle.meaning.specs.Each.{some_of}
 use Rattle.meaning.specs.Lends.{store_of}
-use Rattle.meaning.specs.State.{state_in, most_commands}
+use Rattle.meaning.specs.State.{state_in}
 use Rattle.meaning.specs.Sizes.{sizes_wrong}
 use Rattle.meaning.specs.Command.{no_record}
 use Rattle.meaning.proofs.Numbers.{sizes_long}
 use Rattle.command.specs.Data.{bad_in}
 use Rattle.command.specs.declared.sound.Judged.{Judged}
 use Rattle.command.proofs.Data.{judged_by_rooms}
-use Rattle.command.specs.declared.touch.Footprint.{Footprint}
 use Rattle.command.specs.Footprints.{footprint_of}
 use Rattle.board.specs.Watching.{Watching}
 use lib.Seq.{get_or-take, length-take-le}
