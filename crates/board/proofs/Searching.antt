@@ -1,19 +1,18 @@
 -- The search for an earlier command that blocks a place: what the places passed show, what a blocker shows, how footprints tell it, and what of
 -- it stays true when a step is taken somewhere. A step never makes a command block that did not, and changes nothing of what one touches.
-use mathlib.Core.Path.{◌≡◌, refl, sym, ap, ap₂, ◌∙◌, subst}
+use mathlib.Core.Path.{◌≡◌, refl, sym, ap, ap₂, ◌∙◌}
 use Prim.Native.Nat.{ℕ, zero, suc, ◌+◌, ◌≤◌, ◌<◌}
 use native.Mathlib.Nat.{not-suc-le-zero}
 use native.Mathlib.Numerals.{add-one}
 use native.Mathlib.Omega.{arith}
-use mathlib.Core.Bool.{Bool, true, false, not, ◌&&◌, ◌||◌, or_assoc, true≢false}
-use mathlib.Core.List.{List, [], ◌∷◌, ◌++◌}
-use lib.ListN.{length, get_or, set, take, replicate, length-set}
+use mathlib.Core.Bool.{Bool, true, false, not, ◌&&◌, true≢false}
+use mathlib.Core.List.{List, [], ◌∷◌}
+use lib.ListN.{length, get_or, set, take, replicate}
 use lib.Seq.{take-suc, take-set-le, get_or-set_same, get_or-set_other}
 use lib.Dec.{leb}
 use borrow.Author.Tests.{leb-true, le-leb, lt-leb}
 use Rattle.meaning.specs.declared.Record.{Record}
 use Rattle.meaning.specs.Each.{some_of}
-use Rattle.meaning.specs.State.{most_commands}
 use Rattle.meaning.specs.Command.{steps_of, finished, no_record}
 use Rattle.meaning.specs.Touch.{touched, conflict}
 use Rattle.meaning.specs.Step.{with_taken, stepped}
