@@ -139,17 +139,10 @@ fn search_on(table: &[Record], watches: &[Watch], place: usize) -> usize
     ensures passed { some_of (blocking (get_or table.now place command.no_record)) (take result table.now) ≡ false }
     ensures stopped { result < place → blocking (get_or table.now place command.no_record) (get_or table.now result command.no_record) ≡ true }
 {
-    let Watch {
-        footprint,
-        searched,
-    } = watches[place];
-    for earlier in searched..place {
-        if blocks(
-            &table[earlier],
-            watches[earlier].footprint,
-            &table[place],
-            footprint,
-        ) {
+    let wanted = watches[place];
+    for earlier in wanted.searched..place {
+        let touched = watches[earlier].footprint;
+        if blocks(&table[earlier], touched, &table[place], wanted.footprint) {
             return earlier;
         }
     }
