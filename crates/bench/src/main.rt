@@ -15,6 +15,7 @@ fn read_all(input: &mut Stdin, run: &mut [u8]) -> io::Result<usize>
     ensures { Within result run.new }
 {
     let mut n = 0;
+    // stays: n counts the bytes that have come, and the library's reading to the end wants a heap
     while n < run.len() {
         let more = input.read(&mut run[n..])?;
         if more == 0 {

@@ -37,10 +37,6 @@ module _ (b : List ℕ) where
 
 -- ---- memory
 
--- with k records laid, one more
-pub lays_more : (b z m m' : List ℕ) (k : ℕ) → m ≡ foldl (lay_record b) z (up_to k) → m' ≡ lay_record b m k → m' ≡ foldl (lay_record b) z (up_to (k + 1))
-lays_more b z m m' k e f = f ∙ ap (λ (x : List ℕ). lay_record b x k) e ∙ sym (fold_more (lay_record b) z k)
-
 pub all_laid : (b z m : List ℕ) (n k : ℕ) → z ≡ replicate n 0 → n ≡ memory_bytes → k ≡ record_count b → m ≡ foldl (lay_record b) z (up_to k)
     → m ≡ bench_memory b
 unfolding bench_memory

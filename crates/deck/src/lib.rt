@@ -15,7 +15,8 @@ pub struct RanChain {
 }
 
 // Why none runs: the bytes are no deck, or the walk refuses its chain, with this number.
-#[derive(Clone, Copy)]
+// stays: a number, as the walk's answer to C has it (`Walked`)
+#[derive(Clone, Copy, Debug, PartialEq, Eq)]
 pub enum Refused {
     NoDeck,
     NoChain(u8),

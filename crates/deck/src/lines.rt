@@ -60,6 +60,7 @@ impl Text {
     }
 
     // A byte as two upper-case hex digits.
+    // stays: `write!` may fail for all that its clauses say, even where there is room, and printing a deck cannot
     fn put_hex(&mut self, byte: u8)
         requires { length self.old + 2 ≤ most_bytes }
         ensures { self.new ≡ self.old ++ lines.hex byte }
@@ -69,6 +70,7 @@ impl Text {
     }
 
     // A number in decimal, with no zeros before it.
+    // stays: by hand, as two hex digits do
     fn put_decimal(&mut self, n: u64)
         requires { length self.old + length (lines.decimal n) ≤ most_bytes }
         ensures { self.new ≡ self.old ++ lines.decimal n }
@@ -144,7 +146,6 @@ impl Text {
 }
 
 // A digit of base 16: 0 to 9, then A to F.
-// stays: `write!` may fail for all that its clauses say, even where there is room, and to print a deck cannot fail
 fn digit(n: u8) -> u8
     requires { n < 16 }
     ensures { result ≡ lines.digit n }
