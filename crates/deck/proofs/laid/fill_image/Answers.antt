@@ -12,7 +12,8 @@ loop-n-init c = refl
 pub loop-n-preserved : goal.loop-n-preserved
 loop-n-preserved c =
     let l = c.loop-n in
-    fills_more c.args.image.now l.image _ l.n _ (omega (arith, c.from-at.ensures)) (omega arith) l.invariant (c.fill.ensures.after (λ y e. e))
+    let filled = c.fill.ensures.after (λ y e. e) in
+    fills_more c.args.image.now l.image _ l.n _ (omega (arith, c.from-at.ensures)) (omega arith) l.invariant filled
 
 pub returns : goal.returns
 returns c =

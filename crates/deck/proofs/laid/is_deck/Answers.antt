@@ -12,8 +12,10 @@ use Rattle.deck.proofs.laid.is_deck.Goals as goal
 pub returns-then-whole_records : goal.returns-then-whole_records
 returns-then-whole_records c =
     let b = c.args.bytes.now in
-    all_from_yields_List (fillers_right b) _ _ _ c.all.ensures.ran (YieldsList-from_range 0 (record_count b) (record_count b) refl (omega arith)) (λ x r q k. search (rules, tests))
-    ∙ all_in_range (fillers_right b) (record_count b)
+    let n = record_count b in
+    let places = YieldsList-from_range 0 n n refl (omega arith) in
+    all_from_yields_List (fillers_right b) _ _ _ c.all.ensures.ran places (λ x r q k. search (rules, tests))
+    ∙ all_in_range (fillers_right b) n
     ∙ sym (by_fillers b (sym c.whole_records.ensures ∙ c.if-whole_records.true))
 
 pub returns-else-whole_records : goal.returns-else-whole_records

@@ -28,4 +28,6 @@ returns c =
       | in-Err w ↦ w.text-is ∙ w.put_refused.ensures ∙ sym (ap lines w.in-Err.is)
     ]
     in
-    prints a.bytes.now a.out.now c.match-run_deck.text c.run_deck.result c.copy_to.result c.copy_to.new.out c.if-out-lt-MOST_BYTES.false c.run_deck.ensures put c.copy_to.ensures
+    let room = c.if-out-lt-MOST_BYTES.false in
+    let copy = c.copy_to in
+    prints a.bytes.now a.out.now c.match-run_deck.text c.run_deck.result copy.result copy.new.out room c.run_deck.ensures put copy.ensures

@@ -13,23 +13,36 @@ pub put_decimal-requires : goal.put_decimal-requires
 put_decimal-requires c = omega (arith, decimal_few 1 c.args.place c.requires.0)
 
 pub put_byte-requires : goal.put_byte-requires
-put_byte-requires c = omega (arith, c.requires, decimal_few 1 c.args.place c.requires.0, ap length c.put_decimal.ensures, length-append c.args.self.now (decimal c.args.place))
+put_byte-requires c =
+    let a = c.args in
+    omega (arith, c.requires, decimal_few 1 a.place c.requires.0, ap length c.put_decimal.ensures, length-append a.self.now (decimal a.place))
 
 pub put_hex-requires : goal.put_hex-requires
-put_hex-requires c = omega (arith, c.requires, decimal_few 1 c.args.place c.requires.0, ap length c.put_decimal.ensures, length-append c.args.self.now (decimal c.args.place), ap length c.put_byte.ensures, length-append c.put_decimal.new.self (space ∷ []))
-
-pub put_byte-requires-2 : goal.put_byte-requires-2
-put_byte-requires-2 c =
+put_hex-requires c =
+    let a = c.args in
     omega (
       arith,
       c.requires,
-      decimal_few 1 c.args.place c.requires.0,
+      decimal_few 1 a.place c.requires.0,
       ap length c.put_decimal.ensures,
-      length-append c.args.self.now (decimal c.args.place),
+      length-append a.self.now (decimal a.place),
+      ap length c.put_byte.ensures,
+      length-append c.put_decimal.new.self (space ∷ []),
+    )
+
+pub put_byte-requires-2 : goal.put_byte-requires-2
+put_byte-requires-2 c =
+    let a = c.args in
+    omega (
+      arith,
+      c.requires,
+      decimal_few 1 a.place c.requires.0,
+      ap length c.put_decimal.ensures,
+      length-append a.self.now (decimal a.place),
       ap length c.put_byte.ensures,
       length-append c.put_decimal.new.self (space ∷ []),
       ap length c.put_hex.ensures,
-      length-append c.put_byte.new.self (hex c.args.code),
+      length-append c.put_byte.new.self (hex a.code),
     )
 
 pub returns : goal.returns
