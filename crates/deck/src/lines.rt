@@ -154,6 +154,7 @@ fn digit(n: u8) -> u8
 }
 
 // The lines of a deck, at the start of `out`: how many bytes they have; 0, with nothing written, where `out` is too short for the most.
+// stays: a count of 0 and no error, since `PrintGives` promises it
 pub fn print_deck(bytes: &[u8], out: &mut [u8]) -> usize
     ensures { PrintGives bytes.now out.old result out.new }
 {

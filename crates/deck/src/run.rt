@@ -10,6 +10,7 @@ use chain::walk;
 use meaning::{LentDrives, Record};
 
 // The codes of the commands, in front of zeros.
+// stays: the whole table and a count, since the check knows its length here and not where the walk answers it
 fn codes_of(table: &[Record; 32], commands: usize) -> [u8; 32]
     requires { commands ≤ 32 }
     ensures codes { take commands result ≡ codes_of (take commands table.now) }
