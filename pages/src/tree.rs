@@ -5,7 +5,8 @@ use crate::{rules, File};
 use std::collections::{BTreeMap, BTreeSet};
 use std::fmt;
 
-/// A public function of a crate; `module` is empty for the crate's root.
+/// A public function of a crate; `module` is empty for the crate's root. That of a type has the type
+/// after its module: `make::Viewer`.
 #[derive(Clone, Debug, PartialEq, Eq, PartialOrd, Ord)]
 pub struct Function {
     pub krate: String,
@@ -109,21 +110,32 @@ impl Tree {
         self.names.entry(name.to_string()).or_default().push(home.clone());
     }
 
-    /// Public functions and structs of a source file.
+    /// Public functions, those of types among them, structs and enums of a source file.
     fn add_source(&mut self, krate: &str, module: &str, text: &str) {
         let module = if module == "lib" || module == "main" { "" } else { module };
         let home =
             Home { krate: krate.to_string(), folder: Folder::Source, file: module.to_string() };
+        let module = module.replace('/', "::");
+        let mut of_type = "";
         for line in text.lines() {
-            if let Some(rest) = line.strip_prefix("pub struct ") {
+            let plain_type = line.strip_prefix("pub struct ").or(line.strip_prefix("pub enum "));
+            if let Some(rest) = plain_type {
                 self.add_name(word(rest), &home);
+            }
+            if line.starts_with("impl") {
+                of_type = implemented(line);
+            } else if line.starts_with('}') {
+                of_type = "";
             }
             let plain = line.strip_prefix("pub fn ");
             let exported = line.strip_prefix("pub extern \"C\" fn ");
-            if let Some(rest) = plain.or(exported) {
+            let method = line.strip_prefix("    pub fn ").filter(|_| !of_type.is_empty());
+            if let Some(rest) = plain.or(exported).or(method) {
+                let parts = [module.as_str(), method.map_or("", |_| of_type)];
+                let named: Vec<&str> = parts.into_iter().filter(|part| !part.is_empty()).collect();
                 self.functions.push(Function {
                     krate: krate.to_string(),
-                    module: module.replace('/', "::"),
+                    module: named.join("::"),
                     name: word(rest).to_string(),
                     exported: exported.is_some(),
                 });
@@ -184,6 +196,16 @@ impl Tree {
 fn word(text: &str) -> &str {
     let end = text.find(|letter: char| !letter.is_alphanumeric() && letter != '_');
     &text[..end.unwrap_or(text.len())]
+}
+
+/// The type that a line such as `impl<'a> Viewer<'a> {` is about.
+fn implemented(line: &str) -> &str {
+    let rest = line.trim_start_matches("impl");
+    let rest = match rest.strip_prefix('<') {
+        Some(parameters) => parameters.split_once('>').map_or("", |(_, after)| after),
+        None => rest,
+    };
+    word(rest.rsplit_once(" for ").map_or(rest, |(_, of)| of).trim_start())
 }
 
 /// The name that a line of a definition's statement begins with: what stands before the colon,

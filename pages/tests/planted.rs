@@ -147,6 +147,12 @@ fn every_kind_of_miss_is_found() {
             "docs/CONTRACTS.md: the public function base::run is not named",
         ),
         (
+            "crates/base/src/lib.rt",
+            "pub fn walk",
+            "pub enum Kind { Of }\nimpl<'a> Kind<'a> {\n    pub fn told(self) {}\n}\npub fn walk",
+            "docs/CONTRACTS.md: the public function base::Kind::told is not named",
+        ),
+        (
             "docs/PROMISES.md",
             "Walk 1 to 3",
             "Walk 1, 2",
