@@ -1,9 +1,8 @@
--- Overwriting as the code does it: a part of one slice copied to a part of another, and four bytes stored one after the other,
--- are both `sets`, the definitions' way to overwrite; two parts copied one behind the other are one part copied.
+-- Overwriting as the code does it: bytes laid over a part of a slice are `sets`, the definitions' way to overwrite; two parts copied one
+-- behind the other are one part copied.
 use mathlib.Core.Path.{◌≡◌, sym, ap, ap₂, ◌∙◌}
 use Prim.Native.Nat.{ℕ, suc, ◌+◌, ◌-◌, ◌≤◌}
 use native.Mathlib.Nat.{add-sub_cancel_left, add-zero, add-suc, suc-add}
-use native.Mathlib.Numerals.{add-one, add-two, add-three}
 use native.Mathlib.Omega.{arith}
 use mathlib.Core.List.{List, [], ◌∷◌, ◌++◌, append_assoc}
 use lib.ListN.{length, take, drop, set, length-drop}
@@ -16,24 +15,22 @@ part_is l a n = ap (λ (k : ℕ). take k (drop a l)) (add-sub_cancel_left a n)
 part_length : (l : List ℕ) (a n : ℕ) → a + n ≤ length l → length (take n (drop a l)) ≡ n
 part_length l a n h = length-take-le n (drop a l) (omega (arith, length-drop a l))
 
--- a copy of one part onto another that is as long, as `sets` of the whole
-module _ (n : ℕ) (src dst : List ℕ) (from to : ℕ) (in_src : from + n ≤ length src) (in_dst : to + n ≤ length dst) where
-  pub copied_is_sets : (ys : List ℕ) → ys ≡ take (from + n - from) (drop from src)
-      → take to dst ++ (ys ++ drop (to + n - to) (drop to dst)) ≡ sets dst to (take n (drop from src))
-  copied_is_sets ys e =
-      let p = take n (drop from src) in
-      let lp : length p ≡ n = part_length src from n in_src in
-      let is-p : ys ≡ p = e ∙ part_is src from n in
-      let rest : drop (to + n - to) (drop to dst) ≡ drop (to + length p) dst =
-      ap (λ (k : ℕ). drop k (drop to dst)) (add-sub_cancel_left to n) ∙ drop-drop n to dst ∙ ap (λ (k : ℕ). drop (to + k) dst) (sym lp)
-      in
-      ap₂ (λ (x y : List ℕ). take to dst ++ (x ++ y)) is-p rest
-      ∙ sym (append_assoc (take to dst) p (drop (to + length p) dst))
-      ∙ sym (sets-eq p dst to (omega arith))
+-- as many bytes laid over a part, as `sets` of the whole
+pub laid_is_sets : (n : ℕ) (dst xs : List ℕ) (to : ℕ) → length xs ≡ n → to + n ≤ length dst → take to dst ++ (xs ++ drop (to + n - to) (drop to dst)) ≡ sets dst to xs
+laid_is_sets n dst xs to long h =
+    let rest : drop (to + n - to) (drop to dst) ≡ drop (to + length xs) dst =
+    ap (λ (k : ℕ). drop k (drop to dst)) (add-sub_cancel_left to n) ∙ drop-drop n to dst ∙ ap (λ (k : ℕ). drop (to + k) dst) (sym long)
+    in
+    ap (λ (y : List ℕ). take to dst ++ (xs ++ y)) rest
+    ∙ sym (append_assoc (take to dst) xs (drop (to + length xs) dst))
+    ∙ sym (sets-eq xs dst to (omega arith))
 
--- four bytes stored one after the other
-pub four_sets : (l : List ℕ) (a b₀ b₁ b₂ b₃ : ℕ) → set (set (set (set l a b₀) (a + 1) b₁) (a + 2) b₂) (a + 3) b₃ ≡ sets l a (b₀ ∷ b₁ ∷ b₂ ∷ b₃ ∷ [])
-four_sets l a b₀ b₁ b₂ b₃ = simp (add-one, add-two, add-three)
+-- and so is a copy of another part that is as long
+pub copied_is_sets : (n : ℕ) (src dst : List ℕ) (from to : ℕ) → from + n ≤ length src → to + n ≤ length dst
+    → (ys : List ℕ) → ys ≡ take (from + n - from) (drop from src) → take to dst ++ (ys ++ drop (to + n - to) (drop to dst)) ≡ sets dst to (take n (drop from src))
+copied_is_sets n src dst from to h k ys e =
+    ap (λ (x : List ℕ). take to dst ++ (x ++ drop (to + n - to) (drop to dst))) (e ∙ part_is src from n)
+    ∙ laid_is_sets n dst (take n (drop from src)) to (part_length src from n h) k
 
 -- ---- one part behind the other
 

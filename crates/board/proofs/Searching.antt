@@ -112,20 +112,21 @@ module _ (f g : Footprint) (e r : Record) (ef : f ≡ footprint_of e) (eg : g �
 
 -- ---- what is watched
 
-zeros : (n p : ℕ) → ◌≡◌ {A = ℕ} (get_or (replicate n no_watch) p no_watch).searched 0
-zeros zero p = refl
-zeros (suc n) zero = refl
-zeros (suc n) (suc p) = zeros n p
-
 -- at first nothing
-pub watching_none : (t : List Record) → Watching 0 t (replicate 32 no_watch)
-watching_none t =
-    record {
-      long = refl;
-      touches = λ p h. absurd (not-suc-le-zero h);
-      within = λ p. omega (arith, zeros 32 p);
-      free = λ p. ap (λ (k : ℕ). some_of (blocking (get_or t p no_record)) (take k t)) (zeros 32 p);
-    }
+module _ (none : Watch) (at_front : none.searched ≡ 0) where
+  zeros : (n p : ℕ) → (get_or (replicate n none) p no_watch).searched ≡ 0
+  zeros zero p = refl
+  zeros (suc n) zero = at_front
+  zeros (suc n) (suc p) = zeros n p
+
+  pub watching_none : (t : List Record) → Watching 0 t (replicate 32 none)
+  watching_none t =
+      record {
+        long = refl;
+        touches = λ p h. absurd (not-suc-le-zero h);
+        within = λ p. omega (arith, zeros 32 p);
+        free = λ p. ap (λ (k : ℕ). some_of (blocking (get_or t p no_record)) (take k t)) (zeros 32 p);
+      }
 
 module _ (n : ℕ) (t : List Record) (ws : List Watch) (w : Watching n t ws) where
   pub watching_fewer : (m : ℕ) → m ≤ n → Watching m t ws

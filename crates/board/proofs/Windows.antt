@@ -8,7 +8,10 @@ use native.Mathlib.Omega.{arith}
 use mathlib.Core.Bool.{Bool, true, false, ◌||◌, cond, false≢true}
 use mathlib.Core.List.{List, [], ◌∷◌, map}
 use lib.ListN.{length, get_or, take, drop}
-use lib.Seq.{sets}
+use lib.Seq.{sets, drop-cons}
+use native.Mathlib.Numerals.{add-one}
+use native.Mathlib.Nat.{not-suc-le-zero, le_of_suc-le-suc}
+use Rattle.std.proofs.lemmas.List.{drop_all}
 use Rattle.meaning.specs.declared.Link.{Link}
 use Rattle.meaning.specs.declared.Record.{Record}
 use Rattle.meaning.specs.Store.{Space, memory, disk, same, Store, Area, area, get, put, Move, copy, move, moves}
@@ -24,7 +27,6 @@ use Rattle.meaning.proofs.Rows.{pass}
 use Rattle.meaning.proofs.Means.{Means, holds, fails, means_eq}
 use Rattle.meaning.proofs.Spaces.{AsLong, length_moves}
 use Rattle.meaning.proofs.Conditions.{Inside}
-use Rattle.meaning.proofs.Links.{Going, going_start, going_on, next_link, no_more_links}
 use Rattle.meaning.proofs.Pieces.{piece_asked}
 use Rattle.board.specs.OneUnit.{on_unit}
 use Rattle.board.specs.Moved.{sectors_moved, on_disk, part_move, piece_move, window_moved}
@@ -294,80 +296,51 @@ module _ (u : ℕ) (m i : List ℕ) (s : Store) (a d n : ℕ) where
       ∙ sym (put_disk u m i s (take n (drop a m)) d)
       ∙ ap (λ (r : Bool). move (part_move u r a d n) (on_unit u m i s)) (sym e)
 
+  -- one part more, right behind those before it
+  pub part_more : (rd : Bool) (c : ℕ) → a + n ≤ length m → d + n ≤ length i
+      → move (part_move u rd (a + n) (d + n) c) (move (part_move u rd a d n) (on_unit u m i s)) ≡ move (part_move u rd a d (n + c)) (on_unit u m i s)
+  part_more true c h k = copy_behind (disk u) memory d a n c (on_unit u m i s) refl (rw (unit_disk u m i s) k)
+  part_more false c h k = copy_behind memory (disk u) a d n c (on_unit u m i s) refl h
+
+  -- no bytes yet
+  pub part_none : (rd : Bool) → n ≡ 0 → move (part_move u rd a d n) (on_unit u m i s) ≡ on_unit u m i s
+  part_none true e = copy_none (area (disk u) d n) memory a (on_unit u m i s) e
+  part_none false e = copy_none (area memory a n) (disk u) d (on_unit u m i s) e
+
 -- a piece of a range
-module _ (f b lo hi : ℕ) (x : Link) (m i : List ℕ) (skip end : ℕ) (is-skip : skip ≡ before (range_of x) b lo) (is-end : end ≡ before (range_of x) b hi) (u : ℕ) (s : Store) where
+module _ (f b lo hi : ℕ) (x : Link) (m i : List ℕ) (skip end : ℕ) (is-skip : skip ≡ before (range_of x) b lo) (is-end : end ≡ before (range_of x) b hi) (u : ℕ) (s : Store) (rd : Bool) where
   abbrev piece : Piece
   piece = record { at = b + skip; from = x.address + skip; many = end - skip }
 
-  this_piece : (rd : Bool) → move (piece_move u rd f piece) (on_unit u m i s) ≡ move (piece_move u rd f (piece_of (range_of x) b lo hi)) (on_unit u m i s)
-  this_piece rd = λ j. move (piece_move u rd f (record { at = b + is-skip j; from = x.address + is-skip j; many = is-end j - is-skip j })) (on_unit u m i s)
+  pub this_piece : move (piece_move u rd f piece) (on_unit u m i s) ≡ move (piece_move u rd f (piece_of (range_of x) b lo hi)) (on_unit u m i s)
+  this_piece = λ j. move (piece_move u rd f (record { at = b + is-skip j; from = x.address + is-skip j; many = is-end j - is-skip j })) (on_unit u m i s)
 
-  pub piece_nothing : (rd : Bool) → end ≤ skip → on_unit u m i s ≡ move (piece_move u rd f (piece_of (range_of x) b lo hi)) (on_unit u m i s)
-  piece_nothing rd h = sym (no_piece u rd f piece (on_unit u m i s) (omega arith)) ∙ this_piece rd
-
-  pub piece_read : (rd : Bool) → rd ≡ true → (m' : List ℕ) → m' ≡ sets m (x.address + skip) (take (end - skip) (drop (f + (b + skip)) i))
-      → on_unit u m' i s ≡ move (piece_move u rd f (piece_of (range_of x) b lo hi)) (on_unit u m i s)
-  piece_read rd e m' em = part_read u m i s (x.address + skip) (f + (b + skip)) (end - skip) rd e m' em ∙ this_piece rd
-
-  pub piece_written : (rd : Bool) → rd ≡ false → (i' : List ℕ) → i' ≡ sets i (f + (b + skip)) (take (end - skip) (drop (x.address + skip) m))
-      → on_unit u m i' s ≡ move (piece_move u rd f (piece_of (range_of x) b lo hi)) (on_unit u m i s)
-  piece_written rd e i' ei = part_written u m i s (x.address + skip) (f + (b + skip)) (end - skip) rd e i' ei ∙ this_piece rd
+  pub piece_nothing : end ≤ skip → on_unit u m i s ≡ move (piece_move u rd f (piece_of (range_of x) b lo hi)) (on_unit u m i s)
+  piece_nothing h = sym (no_piece u rd f piece (on_unit u m i s) (omega arith)) ∙ this_piece
 
 -- ---- a loop through the ranges of a list: what is left to move, moved from here on, is the whole
 
-module _ (rd : Bool) (f lo hi : ℕ) (list : List Link) (n last : ℕ) (m₀ i₀ : List ℕ) where
-  abbrev left_from : ℕ → List Link
-  left_from k = drop k (take last list)
-
-  abbrev inside : Link → Type 0
-  inside x = Inside (length m₀) (range_of x)
-
-  pub record Laying (m i : List ℕ) (b k : ℕ) : Type 0 where
-    pub going : Going n list last k
-    pub small : b ≤ 65_535 * k
-    pub long_m : length m ≡ length m₀
-    pub long_i : length i ≡ length i₀
-    pub all : All inside (left_from k)
-    pub left : (u : ℕ) (s : Store) → window_moved u rd f (map range_of (take n list)) 0 lo hi (on_unit u m₀ i₀ s) ≡ window_moved u rd f (map range_of (left_from k)) b lo hi (on_unit u m i s)
-
-  pub laying_start : last ≡ min n 32 → length list ≡ 32 → All inside (take n list) → Laying m₀ i₀ 0 0
-  laying_start e l h =
-      let g = going_start n list last e l in
-      record {
-        going = g;
-        small = omega arith;
-        long_m = refl;
-        long_i = refl;
-        all = subst (All inside) g.held h;
-        left = λ u s. ap (λ (xs : List Link). window_moved u rd f (map range_of xs) 0 lo hi (on_unit u m₀ i₀ s)) g.held;
-      }
+module _ (rd : Bool) (f lo hi : ℕ) (list : List Link) (m₀ i₀ : List ℕ) where
+  abbrev pub Laying : List ℕ → List ℕ → ℕ → ℕ → Type 0
+  Laying m i b k = (u : ℕ) (s : Store) → window_moved u rd f (map range_of list) 0 lo hi (on_unit u m₀ i₀ s) ≡ window_moved u rd f (map range_of (drop k list)) b lo hi (on_unit u m i s)
 
   module _ (m i : List ℕ) (b k : ℕ) (y : Laying m i b k) where
-    abbrev x : Link
-    x = get_or list k no_link
-
-    pub laying_inside : k < last → x.address + x.length ≤ length m
-    laying_inside h = let q : All inside (x ∷ left_from (k + 1)) = subst (All inside) (next_link n list last k y.going h) y.all in omega (arith, q.0, y.long_m)
-
-    pub laying_next : k < last → (m' i' : List ℕ) (b' : ℕ) → ((u : ℕ) (s : Store) → on_unit u m' i' s ≡ move (piece_move u rd f (piece_of (range_of x) b lo hi)) (on_unit u m i s))
-        → length m' ≡ length m → length i' ≡ length i → b' ≡ b + x.length → x.length ≤ 65_535 → Laying m' i' b' (k + 1)
+    pub laying_next : k < length list → (m' i' : List ℕ)
+        → ((u : ℕ) (s : Store) → on_unit u m' i' s ≡ move (piece_move u rd f (piece_of (range_of (get_or list k no_link)) b lo hi)) (on_unit u m i s))
+        → Laying m' i' (b + (get_or list k no_link).length) (k + 1)
     unfolding window_moved moves
-    laying_next h m' i' b' e lm li eb few =
-        let next = next_link n list last k y.going h in
-        let q : All inside (x ∷ left_from (k + 1)) = subst (All inside) next y.all in
-        record {
-          going = going_on n list last k y.going h;
-          small = omega (arith, y.small);
-          long_m = lm ∙ y.long_m;
-          long_i = li ∙ y.long_i;
-          all = q.1;
-          left =
-              λ u s.
-              y.left u s
-              ∙ ap (λ (xs : List Link). window_moved u rd f (map range_of xs) b lo hi (on_unit u m i s)) next
-              ∙ ap₂ (λ (c : ℕ) (z : Store). window_moved u rd f (map range_of (left_from (k + 1))) c lo hi z) (sym eb) (sym (e u s));
-        }
+    laying_next h m' i' e u s =
+        let here : drop k list ≡ get_or list k no_link ∷ drop (k + 1) list = rw add-one (drop-cons list k no_link h) in
+        y u s
+        ∙ ap (λ (xs : List Link). window_moved u rd f (map range_of xs) b lo hi (on_unit u m i s)) here
+        ∙ ap (window_moved u rd f (map range_of (drop (k + 1) list)) (b + (get_or list k no_link).length) lo hi) (sym (e u s))
 
-    pub laying_done : last ≤ k → (u : ℕ) (s : Store) → on_unit u m i s ≡ window_moved u rd f (map range_of (take n list)) 0 lo hi (on_unit u m₀ i₀ s)
+    pub laying_done : length list ≤ k → (u : ℕ) (s : Store) → on_unit u m i s ≡ window_moved u rd f (map range_of list) 0 lo hi (on_unit u m₀ i₀ s)
     unfolding window_moved moves
-    laying_done h u s = sym (y.left u s ∙ ap (λ (xs : List Link). window_moved u rd f (map range_of xs) b lo hi (on_unit u m i s)) (no_more_links n list last k y.going h))
+    laying_done h u s = sym (y u s ∙ ap (λ (xs : List Link). window_moved u rd f (map range_of xs) b lo hi (on_unit u m i s)) (drop_all k list h))
+
+-- each range of a list lies within memory
+pub inside_at : (m : ℕ) (list : List Link) (k : ℕ) → All (λ x. Inside m (range_of x)) list → k < length list → Inside m (range_of (get_or list k no_link))
+inside_at m [] k h g = absurd (not-suc-le-zero g)
+inside_at m (x ∷ list) zero h g = h.0
+inside_at m (x ∷ list) (suc k) h g = inside_at m list k h.1 (le_of_suc-le-suc g)

@@ -26,10 +26,10 @@ use units::rooms;
 
 // What a run by picks keeps of a command beside its record: what it touches, which no step changes, and how many earlier commands are known
 // not to block it. A command only ever comes nearer to its end, so one that once did not block a place never blocks it again.
-#[derive(Clone, Copy)]
-pub struct Watch {
-    pub footprint: Footprint,
-    pub searched: usize,
+#[derive(Clone, Copy, Default)]
+struct Watch {
+    footprint: Footprint,
+    searched: usize,
 }
 
 // Numbers 1 and 9, which both runs test first. Where neither is given all footprints of the commands are known: the list of a command is
@@ -50,10 +50,7 @@ fn opening(
     }
     let size = store.memory.len() as u64;
     let rooms = rooms::rooms_of(store.drives);
-    let mut watches = [Watch {
-        footprint: touch::no_footprint(),
-        searched: 0,
-    }; 32];
+    let mut watches = [Watch::default(); 32];
     for (place, r) in table[..commands].iter().enumerate() {
         let judged = sound::judge(size, rooms, *r);
         if judged.bad {

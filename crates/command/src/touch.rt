@@ -178,7 +178,7 @@ fn first(list: &[Link; 32], n: u16) -> &[Link]
 }
 
 // The ranges of a command that has a list.
-fn links_of(r: &Record) -> &[Link]
+pub fn links_of(r: &Record) -> &[Link]
     ensures value { result.now ≡ links_of r.now }
     ensures few { length result.now ≤ most_links }
 {

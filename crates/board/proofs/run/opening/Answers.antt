@@ -56,8 +56,7 @@ slice_bounds-r-items-end c = let at = goal.at.slice_bounds-r-items-end c in
     sym (there at.Else-commands-gt-RECORDS (right at.Else-wrong_size))
 
 pub loop-place-init : goal.loop-place-init
-loop-place-init c =
-    (subst (λ (f : Footprint). Watching 0 c.args.table.now (replicate 32 (record { footprint = f; searched = 0 }))) (sym c.no_footprint.ensures) (watching_none c.args.table.now), refl)
+loop-place-init c = (watching_none c.default-watches.result c.default-watches.ensures.1 c.args.table.now, refl)
 
 pub returns-then-judged-clause-number : goal.returns-then-judged-clause-number
 returns-then-judged-clause-number c = let a = c.args in

@@ -1,21 +1,13 @@
--- `board::step::close` meets its contract: four stores are `sets` of the four closing bytes.
-use mathlib.Core.Path.{◌∙◌, ap}
-use native.Mathlib.Omega.{arith}
-use lib.ListN.{length-set}
+-- `board::step::close` meets its contract: the four closing bytes are laid over those of the IOPB.
+use mathlib.Core.Path.{ap, ◌∙◌}
 use lib.Seq.{sets}
-use Rattle.board.proofs.Copying.{four_sets}
+use lib.ListN.{length}
+use Rattle.meaning.specs.Step.{closing}
+use Rattle.board.proofs.Copying.{laid_is_sets}
 use Rattle.board.proofs.step.close.Goals as goal
 
-pub bounds-memory-at-2 : goal.bounds-memory-at-2
-bounds-memory-at-2 c = simp length-set (omega arith)
-
-pub bounds-memory-at-3 : goal.bounds-memory-at-3
-bounds-memory-at-3 c = simp length-set (omega arith)
-
-pub bounds-memory-at-4 : goal.bounds-memory-at-4
-bounds-memory-at-4 c = simp length-set (omega arith)
-
 pub returns : goal.returns
+unfolding closing
 returns c = let a = c.args in
-    let s = c.posted-posted.result in
-    four_sets a.memory.now a.r.now.iopb s.byte0 s.code s.drive s.internal ∙ ap (sets a.memory.now a.r.now.iopb) c.posted-posted.ensures
+    let posted = c.copy_from_slice.ensures.after ∙ c.posted.ensures in
+    laid_is_sets 4 a.memory.now c.copy_from_slice.new.self a.r.now.iopb (ap length posted) c.requires ∙ ap (sets a.memory.now a.r.now.iopb) posted
