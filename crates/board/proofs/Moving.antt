@@ -10,6 +10,7 @@ use mathlib.Core.List.{List, [], ◌∷◌, map}
 use lib.ListN.{length, get_or, set}
 use lib.Seq.{sets}
 use borrow.Author.Tests.{eq-eqb, ne_eqb}
+use Rattle.std.proofs.lemmas.Bool.{cond-false, cond-true}
 use Rattle.meaning.specs.Drives.{Drives}
 use Rattle.meaning.specs.declared.Link.{Link}
 use Rattle.meaning.specs.declared.Record.{Record}
@@ -24,7 +25,6 @@ use Rattle.meaning.specs.Sizes.{store_wrong}
 use Rattle.meaning.specs.Pick.{bad_record}
 use Rattle.meaning.specs.Run.{steps_done}
 use Rattle.meaning.proofs.All.{All}
-use Rattle.meaning.proofs.Rows.{pass, stop}
 use Rattle.meaning.proofs.Spaces.{AsLong, length_moves, moves_append}
 use Rattle.meaning.proofs.Conditions.{good, right_store, Inside}
 use Rattle.meaning.proofs.Pieces.{data_plain, data_listed}
@@ -38,7 +38,7 @@ use Rattle.board.proofs.Windows.{sectors_window, plain_window}
 
 one_other : (r : Record) (s : Store) → reads r ≡ false → writes r ≡ false → moves (sector_move r r.taken) s ≡ s
 unfolding sector_move moves
-one_other r s e w = ap (λ (vs : List Move). moves vs s) (pass _ _ _ e ∙ pass _ _ _ w)
+one_other r s e w = ap (λ (vs : List Move). moves vs s) (cond-false _ _ _ e ∙ cond-false _ _ _ w)
 
 pub none_moved : (n : ℕ) (r : Record) (s : Store) → reads r ≡ false → writes r ≡ false → sectors_moved n r s ≡ s
 unfolding sectors_moved stepped with_taken
@@ -141,11 +141,11 @@ module _ (d : Drives) (r : Record) (s : Store) where
 
   last_step : r.taken + 1 ≡ steps_of r → step d r s ≡ moves (close_move d r) moved
   unfolding step step_moves
-  last_step e = moves_append (sector_move r r.taken) _ s ∙ ap (λ (vs : List Move). moves vs moved) (stop _ _ _ (eq-eqb _ _ e))
+  last_step e = moves_append (sector_move r r.taken) _ s ∙ ap (λ (vs : List Move). moves vs moved) (cond-true _ _ _ (eq-eqb _ _ e))
 
   other_step : (r.taken + 1 ≡ steps_of r → ⊥) → step d r s ≡ moved
   unfolding step step_moves moves
-  other_step e = moves_append (sector_move r r.taken) _ s ∙ ap (λ (vs : List Move). moves vs moved) (pass _ _ _ (ne_eqb _ _ e))
+  other_step e = moves_append (sector_move r r.taken) _ s ∙ ap (λ (vs : List Move). moves vs moved) (cond-false _ _ _ (ne_eqb _ _ e))
 
 steps_stepped : (r : Record) → steps_of (stepped r) ≡ steps_of r
 unfolding steps_of stepped with_taken
@@ -204,9 +204,9 @@ module _ (d : Drives) (n : ℕ) (r : Record) (s : Store) (m : List ℕ) (is : Li
 
 pub steps_transfer : (r : Record) → transfers r ≡ true → steps_of r ≡ r.count
 unfolding steps_of
-steps_transfer r t = stop _ _ _ t
+steps_transfer r t = cond-true _ _ _ t
 
--- what 1 and 9 let pass, and what remains of a command, leave room for its steps
+-- what 1 and 9 let cond-false, and what remains of a command, leave room for its steps
 pub ready : (d : Drives) (s : Store) (r : Record) (n : ℕ) → store_wrong d s ≡ false → bad_record d s r ≡ false → n ≤ remaining r → Ready n r (length (s memory)) (length (s (disk r.unit)))
 unfolding remaining
 ready d s r n e b h =

@@ -3,10 +3,10 @@ use mathlib.Core.Path.{◌≡◌, sym, ◌∙◌}
 use Prim.Native.Nat.{ℕ, ◌<◌}
 use native.Mathlib.Omega.{arith}
 use mathlib.Core.List.{List}
+use Rattle.std.proofs.lemmas.Bool.{or_parts}
 use Rattle.meaning.specs.declared.lends.LentStore.{LentStore}
 use Rattle.meaning.specs.Store.{images}
 use Rattle.meaning.specs.Lends.{store_of}
-use Rattle.meaning.proofs.Rows.{or-false}
 use Rattle.board.proofs.Moving.{none_moved, unit_done, ready_below}
 use Rattle.board.proofs.step.move_on_unit.Goals as goal
 
@@ -17,7 +17,7 @@ is s = images s.image0.now s.image1.now s.image2.now s.image3.now
 pub returns-then-not-transfers-clause-done : goal.returns-then-not-transfers-clause-done
 returns-then-not-transfers-clause-done c =
     let a = c.args in
-    let still = or-false _ _ (sym c.transfers.ensures ∙ c.if-not-transfers.true) in
+    let still = or_parts _ _ (sym c.transfers.ensures ∙ c.if-not-transfers.true) in
     sym (none_moved a.n a.r.now (store_of a.store.now) still.0 still.1)
 
 pub returns-in-0-clause-done : goal.returns-in-0-clause-done
