@@ -34,11 +34,7 @@ struct Watch {
 
 // Numbers 1 and 9, which both runs test first. Where neither is given all footprints of the commands are known: the list of a command is
 // gone through once for both.
-fn opening(
-    store: &LentStore<'_>,
-    table: &[Record],
-    commands: usize,
-) -> Result<[Watch; 32], Refusal>
+fn opening(store: &LentStore<'_>, table: &[Record], commands: usize) -> Result<[Watch; 32], Refusal>
     ensures number { told result ≡ run.run_number (drives_of store.now.drives) commands (state_in (store_of store.now) table.now) }
     ensures watching { IfOk result (λ watches. Watching commands table.now watches) }
 {
@@ -143,9 +139,10 @@ fn search_on(table: &[Record], watches: &[Watch], place: usize) -> usize
     ensures passed { some_of (blocking (get_or table.now place command.no_record)) (take result table.now) ≡ false }
     ensures stopped { result < place → blocking (get_or table.now place command.no_record) (get_or table.now result command.no_record) ≡ true }
 {
-    let Watch { footprint, searched } = watches[place];
-    for earlier in searched..place {
-        if blocks(&table[earlier], watches[earlier].footprint, &table[place], footprint) {
+    let wanted = watches[place];
+    for earlier in wanted.searched..place {
+        let touched = watches[earlier].footprint;
+        if blocks(&table[earlier], touched, &table[place], wanted.footprint) {
             return earlier;
         }
     }

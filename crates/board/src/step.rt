@@ -47,14 +47,7 @@ fn close(memory: &mut [u8], l: LentDrives, r: &Record)
 // So many bytes move between memory, from the byte `at` on, and image, from the byte `disk` on: to memory where the command reads. All copies
 // of a step are made here.
 // stays: the direction is a flag, since a closure for each would have to hold both slices, and would be chosen by the same flag.
-fn move_part(
-    memory: &mut [u8],
-    image: &mut [u8],
-    reads: bool,
-    at: usize,
-    disk: usize,
-    size: usize,
-)
+fn move_part(memory: &mut [u8], image: &mut [u8], reads: bool, at: usize, disk: usize, size: usize)
     requires { (at + size ≤ length memory.old) × (disk + size ≤ length image.old) }
     ensures { (u : ℕ) (s : Store) → on_unit u memory.new image.new s ≡ move (part_move u reads at disk size) (on_unit u memory.old image.old s) }
 {
