@@ -1,6 +1,6 @@
 -- Several steps of one command at once. Its sectors, moved one after another, are moved as some bytes of its data at once (`Windows`), which
 -- without a list lie in one piece; no step but the last closes the command.
-use mathlib.Core.Path.{◌≡◌, refl, sym, ap, ap₂, subst, ◌∙◌}
+use mathlib.Core.Path.{◌≡◌, refl, sym, ap, subst, ◌∙◌}
 use mathlib.Core.Logic.{◌≢◌}
 use Prim.Native.Nat.{ℕ, zero, suc, ◌+◌, ◌*◌, ◌≤◌, ◌<◌}
 use native.Mathlib.Nat.{not-suc-le-zero}

@@ -1,7 +1,7 @@
 -- Several sectors of a transfer moved at once. Some bytes of the data, from lo up to hi, lie in pieces, one of each range; moved up to a
 -- byte between and then from there on they are moved as one, since the later ranges hold only later bytes, and the two pieces of one range
 -- lie one behind the other. So the sectors of n steps are the bytes of n sectors, moved at once.
-use mathlib.Core.Path.{◌≡◌, refl, sym, ap, ap₂, subst, ◌∙◌, fun_ext}
+use mathlib.Core.Path.{◌≡◌, refl, sym, ap, ap₂, ◌∙◌, fun_ext}
 use Prim.Native.Nat.{ℕ, zero, suc, ◌+◌, ◌-◌, ◌*◌, ◌≤◌, ◌<◌, min}
 use native.Mathlib.Decide.{dec_le}
 use native.Mathlib.Omega.{arith}

@@ -1,6 +1,6 @@
 -- `board::step::move_on_unit` meets its contract: the unit decides whose image is moved, and all other images stay.
 use mathlib.Core.Path.{◌≡◌, sym, ◌∙◌}
-use Prim.Native.Nat.{ℕ, ◌<◌}
+use Prim.Native.Nat.{ℕ}
 use native.Mathlib.Omega.{arith}
 use mathlib.Core.List.{List}
 use Rattle.meaning.specs.declared.lends.LentStore.{LentStore}
