@@ -1,6 +1,6 @@
 // The two runs: by a lent list of picks, and as written within a step budget. Numbers 1 and 9 are tested once, before anything moves
 // (Run 8). The table is the caller's own, and only the steps taken are written into it.
-ghost use Rattle.std.specs.Prelude.{◌≡◌, ◌≤◌, ◌<◌, ℕ, suc, IfOk, false, true, eqb, get_or, length, ltb, min, set, take};
+ghost use Rattle.std.specs.Prelude.{◌≡◌, ◌≤◌, ◌<◌, ℕ, suc, IfOk, false, true, eqb, get_or, length, min, set, take};
 ghost use Rattle.std.specs.List.{sum_by};
 ghost use Rattle.meaning.specs.Each.{every_of, some_of};
 ghost use Rattle.meaning.specs.Lends.{store_of, SameLent};
