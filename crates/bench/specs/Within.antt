@@ -1,8 +1,5 @@
 -- What was read lies within the run that it was read into.
-use Rattle.std.specs.Prelude.{ℕ, ◌≤◌, List, length}
-use Rattle.bench.specs.declared.Input.{Input}
-use Rattle.bench.specs.declared.Input.TheVariants.{Bytes, Failed}
+use Rattle.std.specs.Prelude.{ℕ, ◌≤◌, List, length, Result, IfOk}
 
-abbrev pub Within : Input → List ℕ → Type 0
-Within (Bytes n) l = n ≤ length l
-Within Failed l = Unit {0}
+abbrev pub Within : {E : Type 0} → Result ℕ E → List ℕ → Type 0
+Within r l = IfOk r (λ n. n ≤ length l)

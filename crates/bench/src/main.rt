@@ -10,29 +10,20 @@ use std::io::{Read, Stdin, Stdout, Write};
 // The most bytes that a deck can have, and one more, by which an input that is longer shows.
 const ROOM: usize = laid::RECORD_BYTES * laid::MOST_RECORDS + 1;
 
-// What reading gives: so many bytes, or that a read failed.
-#[derive(Clone, Copy)]
-enum Input {
-    Bytes(usize),
-    Failed,
-}
-
-// Reads standard input to its end, however its bytes arrive, or until the run is full.
-fn read_all(input: &mut Stdin, run: &mut [u8]) -> Input
+// Reads standard input to its end, however its bytes arrive, or until the run is full: how many bytes there are.
+fn read_all(input: &mut Stdin, run: &mut [u8]) -> io::Result<usize>
     ensures { Within result run.new }
 {
     let mut n = 0;
+    // stays: n counts the bytes that have come, and the library's reading to the end wants a heap
     while n < run.len() {
-        let more = match input.read(&mut run[n..]) {
-            Ok(count) => count,
-            Err(_) => return Input::Failed,
-        };
+        let more = input.read(&mut run[n..])?;
         if more == 0 {
-            return Input::Bytes(n);
+            break;
         }
         n += more;
     }
-    Input::Bytes(n)
+    Ok(n)
 }
 
 // The lines of a deck go to standard output.
@@ -44,8 +35,6 @@ fn print(output: &mut Stdout, bytes: &[u8]) -> io::Result<()> {
 
 fn main(rt: HostRuntime) -> io::Result<()> {
     let mut run = [0u8; ROOM];
-    match read_all(&mut rt.stdin(), &mut run) {
-        Input::Bytes(n) => print(&mut rt.stdout(), &run[..n]),
-        Input::Failed => Err(io::Error::other("standard input")),
-    }
+    let n = read_all(&mut rt.stdin(), &mut run).map_err(|_| io::Error::other("standard input"))?;
+    print(&mut rt.stdout(), &run[..n])
 }

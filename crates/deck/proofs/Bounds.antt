@@ -24,10 +24,8 @@ use Rattle.meaning.proofs.Rows.{or-false}
 use Rattle.meaning.proofs.Conditions.{good}
 use Rattle.meaning.proofs.Walks.{chain_most, chain_is_sound}
 use Rattle.meaning.proofs.Counts.{smaller}
-use Rattle.deck.specs.declared.Outcome.{Outcome}
-use Rattle.deck.specs.declared.Outcome.TheVariants.{NoDeck, NoChain, Ran}
-use Rattle.deck.specs.declared.Report.{Report}
-use Rattle.deck.specs.Meant.{meant, steps_in, Reports}
+use Rattle.std.specs.Prelude.{Ok, Err}
+use Rattle.deck.specs.Meant.{Report, meant, steps_in, Reports}
 use Rattle.deck.proofs.Outcomes.{no_deck_lem, deck_outcome}
 
 -- ---- no unit of the bench has over 32 sectors: unit 0 has as many, and any other is absent
@@ -90,11 +88,7 @@ deck_steps b cs n e = go (is_deck b) refl
     go true t = outcome_steps (drives_of (bench_drives b)) (bench_state b) (unit_sectors b) _ cs n refl (sym (deck_outcome b t) ∙ e)
     go false t = let no = no_deck_lem b t in let z : ◌≡◌ {A = ℕ} 0 1 = cc in omega arith
 
-pub report_steps : (b : List ℕ) (x : Report) → Reports (outcome_of b) x → steps_in x.outcome ≤ 1_024
+pub report_steps : (b : List ℕ) (x : Report) → Reports (outcome_of b) x → steps_in x ≤ 1_024
 unfolding meant
-report_steps b x told = go x.outcome told.means
-  where
-    go : (o : Outcome) → meant o x.codes ≡ outcome_of b → steps_in o ≤ 1_024
-    go NoDeck e = omega arith
-    go (NoChain n) e = omega arith
-    go (Ran commands steps) e = deck_steps b _ steps (sym e)
+report_steps b (Ok x) told = deck_steps b _ x.steps (sym told.means)
+report_steps b (Err e) told = omega arith

@@ -7,10 +7,9 @@ use mathlib.Core.List.{List, ◌++◌}
 use lib.ListN.{length, take, drop, replicate, take-append-drop}
 use lib.Seq.{length-take-le}
 use Rattle.meaning.specs.Bench as bench
-use Rattle.deck.specs.declared.Outcome.{Outcome}
-use Rattle.deck.specs.declared.Outcome.TheVariants.{NoDeck, NoChain, Ran}
-use Rattle.deck.specs.declared.Report.{Report}
-use Rattle.deck.specs.Meant.{meant, commands_in, Reports}
+use Rattle.std.specs.Prelude.{Ok, Err}
+use Rattle.deck.specs.declared.Refused.TheVariants.{NoDeck, NoChain}
+use Rattle.deck.specs.Meant.{Report, meant, codes_in, Reports}
 use Rattle.deck.specs.Put.{Put, PrintGives}
 use Rattle.deck.specs.OneReply.{EachHasOneReply}
 
@@ -31,33 +30,26 @@ same_codes cs ds full₁ full₂ n k h i codes x y =
     let zeros : drop n cs ≡ drop k ds = x ∙ ap (λ (j : ℕ). replicate (32 - j) 0) many ∙ sym y in
     (many, same_halves n k cs ds codes zeros)
 
-module _ (cs ds : List ℕ) (full₁ : length cs ≡ 32) (full₂ : length ds ≡ 32) where
-  -- o with the codes cs and p with the codes ds can only be the same
-  abbrev Same : Outcome → Outcome → Type 0
-  Same o p =
-      commands_in o ≤ 32 → commands_in p ≤ 32 → drop (commands_in o) cs ≡ replicate (32 - commands_in o) 0 → drop (commands_in p) ds ≡ replicate (32 - commands_in p) 0
-      → meant o cs ≡ meant p ds → (o ≡ p) × (cs ≡ ds)
-
-  same : (o p : Outcome) → Same o p
-  unfolding meant
-  same NoDeck NoDeck h i x y e = (refl, x ∙ sym y)
-  same NoDeck (NoChain k) h i x y e = let z : ◌≡◌ {A = ℕ} 0 1 = cc in absurd (omega arith)
-  same NoDeck (Ran k t) h i x y e = let z : ◌≡◌ {A = ℕ} 0 1 = cc in absurd (omega arith)
-  same (NoChain n) NoDeck h i x y e = let z : ◌≡◌ {A = ℕ} 0 1 = cc in absurd (omega arith)
-  same (NoChain n) (NoChain k) h i x y e = let number : n ≡ k = cc in (ap NoChain number, x ∙ sym y)
-  same (NoChain n) (Ran k t) h i x y e = let z : ◌≡◌ {A = ℕ} 0 1 = cc in absurd (omega arith)
-  same (Ran n s) NoDeck h i x y e = let z : ◌≡◌ {A = ℕ} 0 1 = cc in absurd (omega arith)
-  same (Ran n s) (NoChain k) h i x y e = let z : ◌≡◌ {A = ℕ} 0 1 = cc in absurd (omega arith)
-  same (Ran n s) (Ran k t) h i x y e =
-      let codes : take n cs ≡ take k ds = cc in
-      let steps : s ≡ t = cc in
-      let both = same_codes cs ds full₁ full₂ n k h i codes x y in
-      (ap₂ Ran both.0 steps, both.1)
-
-one_report : (o : bench.Outcome) (x y : Report) → length x.codes ≡ 32 → length y.codes ≡ 32 → Reports o x → Reports o y → x ≡ y
-one_report o x y full₁ full₂ p q =
-    let both = same x.codes y.codes full₁ full₂ x.outcome y.outcome p.few q.few p.rest q.rest (p.means ∙ sym q.means) in
-    λ i. record { outcome = both.0 i; codes = both.1 i }
+-- reports with the same meaning, and zeros past their codes, are the same
+one_report : (o : bench.Outcome) (x y : Report) → length (codes_in x) ≡ 32 → length (codes_in y) ≡ 32 → Reports o x → Reports o y → x ≡ y
+unfolding meant
+one_report o (Ok x) (Ok y) full₁ full₂ p q =
+    let same = p.means ∙ sym q.means in
+    let codes : take x.commands x.codes ≡ take y.commands y.codes = cc in
+    let steps : x.steps ≡ y.steps = cc in
+    let both = same_codes x.codes y.codes full₁ full₂ x.commands y.commands p.few q.few codes p.rest q.rest in
+    ap Ok (λ i. record { commands = both.0 i; steps = steps i; codes = both.1 i })
+one_report o (Ok x) (Err NoDeck) full₁ full₂ p q = let same = p.means ∙ sym q.means in let z : ◌≡◌ {A = ℕ} 0 1 = cc in absurd (omega arith)
+one_report o (Ok x) (Err (NoChain n)) full₁ full₂ p q = let same = p.means ∙ sym q.means in let z : ◌≡◌ {A = ℕ} 0 1 = cc in absurd (omega arith)
+one_report o (Err NoDeck) (Ok y) full₁ full₂ p q = let same = p.means ∙ sym q.means in let z : ◌≡◌ {A = ℕ} 0 1 = cc in absurd (omega arith)
+one_report o (Err NoDeck) (Err NoDeck) full₁ full₂ p q = refl
+one_report o (Err NoDeck) (Err (NoChain n)) full₁ full₂ p q = let same = p.means ∙ sym q.means in let z : ◌≡◌ {A = ℕ} 0 1 = cc in absurd (omega arith)
+one_report o (Err (NoChain n)) (Ok y) full₁ full₂ p q = let same = p.means ∙ sym q.means in let z : ◌≡◌ {A = ℕ} 0 1 = cc in absurd (omega arith)
+one_report o (Err (NoChain n)) (Err NoDeck) full₁ full₂ p q = let same = p.means ∙ sym q.means in let z : ◌≡◌ {A = ℕ} 0 1 = cc in absurd (omega arith)
+one_report o (Err (NoChain n)) (Err (NoChain k)) full₁ full₂ p q =
+    let same = p.means ∙ sym q.means in
+    let number : n ≡ k = cc in
+    ap (λ (j : ℕ). Err (NoChain j)) number
 
 pub each_has_one_reply : EachHasOneReply
 unfolding PrintGives

@@ -16,48 +16,47 @@ use Rattle.meaning.specs.Bench.{no_deck, no_chain, ran, outcome_of}
 use Rattle.meaning.specs.Bench as bench
 use Rattle.meaning.specs.Lines.{space, newline, deck_word, chain_word, steps_word, decimal, command_lines, lines_of, printed}
 use Rattle.meaning.proofs.Rows.{pass, stop}
-use Rattle.deck.specs.declared.Outcome.{Outcome}
-use Rattle.deck.specs.declared.Outcome.TheVariants.{NoDeck, NoChain, Ran}
-use Rattle.deck.specs.declared.Report.{Report}
-use Rattle.deck.specs.Meant.{meant, codes_of, chain_outcome, Reports}
+use Rattle.std.specs.Prelude.{Ok, Err}
+use Rattle.deck.specs.declared.RanChain.{RanChain}
+use Rattle.deck.specs.declared.Refused.{Refused}
+use Rattle.deck.specs.declared.Refused.TheVariants.{NoDeck, NoChain}
+use Rattle.deck.specs.Meant.{Report, meant, codes_of, chain_outcome, Reports}
 use Rattle.deck.specs.Put.{Put, most_bytes, PrintGives}
-use Rattle.deck.proofs.Putting.{put_none, put_as}
 
 ran_lines : (codes : List ℕ) (steps : ℕ) → lines_of (ran codes steps) ≡ command_lines 0 codes ++ steps_word ++ space ∷ decimal steps ++ newline ∷ []
 unfolding lines_of
 ran_lines codes steps = refl
 
-module _ (o : Outcome) (codes : List ℕ) where
-  pub none_lines : o ≡ NoDeck → deck_word ++ newline ∷ [] ≡ lines_of (meant o codes)
-  unfolding meant lines_of
-  none_lines e = sym (ap (λ (x : Outcome). lines_of (meant x codes)) e)
+pub run_lines : (x : RanChain) → command_lines 0 (take x.commands x.codes) ++ (steps_word ++ space ∷ decimal x.steps ++ newline ∷ []) ≡ lines_of (meant (Ok x))
+unfolding meant
+run_lines x =
+    let codes = take x.commands x.codes in
+    sym (append_assoc (command_lines 0 codes) (steps_word ++ space ∷ decimal x.steps) (newline ∷ []))
+    ∙ ap (λ (l : List ℕ). l ++ newline ∷ []) (sym (append_assoc (command_lines 0 codes) steps_word (space ∷ decimal x.steps)))
+    ∙ sym (ran_lines codes x.steps)
 
-  pub refused_lines : (n : ℕ) → o ≡ NoChain n → chain_word ++ space ∷ decimal n ++ newline ∷ [] ≡ lines_of (meant o codes)
+module _ (e : Refused) where
+  pub none_lines : e ≡ NoDeck → deck_word ++ newline ∷ [] ≡ lines_of (meant (Err e))
   unfolding meant lines_of
-  refused_lines n e = sym (ap (λ (x : Outcome). lines_of (meant x codes)) e)
+  none_lines is = sym (ap (λ (x : Refused). lines_of (meant (Err x))) is)
 
-  pub run_lines : (commands steps : ℕ) → o ≡ Ran commands steps
-      → command_lines 0 (take commands codes) ++ (steps_word ++ space ∷ decimal steps ++ newline ∷ []) ≡ lines_of (meant o codes)
-  unfolding meant
-  run_lines commands steps e =
-      sym (append_assoc (command_lines 0 (take commands codes)) (steps_word ++ space ∷ decimal steps) (newline ∷ []))
-      ∙ ap (λ (x : List ℕ). x ++ newline ∷ []) (sym (append_assoc (command_lines 0 (take commands codes)) steps_word (space ∷ decimal steps)))
-      ∙ sym (ran_lines (take commands codes) steps)
-      ∙ sym (ap (λ (x : Outcome). lines_of (meant x codes)) e)
+  pub refused_lines : (n : ℕ) → e ≡ NoChain n → chain_word ++ space ∷ decimal n ++ newline ∷ [] ≡ lines_of (meant (Err e))
+  unfolding meant lines_of
+  refused_lines n is = sym (ap (λ (x : Refused). lines_of (meant (Err x))) is)
 
 -- ---- what reports what
 
 module _ (o : bench.Outcome) where
-  pub reports_none : o ≡ no_deck → Reports o (record { outcome = NoDeck; codes = replicate 32 0 })
+  pub reports_none : o ≡ no_deck → Reports o (Err NoDeck)
   unfolding meant
   reports_none e = record { means = sym e; few = lit≤ tt; rest = refl }
 
-  pub reports_refused : (n : ℕ) → o ≡ no_chain n → Reports o (record { outcome = NoChain n; codes = replicate 32 0 })
+  pub reports_refused : (n : ℕ) → o ≡ no_chain n → Reports o (Err (NoChain n))
   unfolding meant
   reports_refused n e = record { means = sym e; few = lit≤ tt; rest = refl }
 
   pub reports_ran : (rs : List Record) (n steps : ℕ) (codes : List ℕ) → n ≤ 32 → take n codes ≡ codes_of rs → drop n codes ≡ replicate (32 - n) 0
-      → o ≡ ran (codes_of rs) steps → Reports o (record { outcome = Ran n steps; codes = codes })
+      → o ≡ ran (codes_of rs) steps → Reports o (Ok (record { commands = n; steps = steps; codes = codes }))
   unfolding meant
   reports_ran rs n steps codes h front rest e = record { means = ap (λ (x : List ℕ). ran x steps) front ∙ sym e; few = h; rest = rest }
 
@@ -82,17 +81,17 @@ module _ (b : List ℕ) where
 
 pub too_short : (b l : List ℕ) → length l < most_bytes → PrintGives b l 0 l
 unfolding PrintGives
-too_short b l h = put_as l 0 [] _ 0 l (sym (pass _ _ _ (lt-leb _ _ h))) (put_none l)
+too_short b l h = subst (λ (x : List ℕ). Put l 0 x 0 l) (sym (pass _ _ _ (lt-leb _ _ h))) (record { past = refl; front = refl; rest = refl })
 
 lines_printed : (b : List ℕ) → lines_of (outcome_of b) ≡ printed b
 unfolding printed
 lines_printed b = refl
 
-pub prints : (b l : List ℕ) (x : Report) (r : ℕ) (l' : List ℕ) → most_bytes ≤ length l → Reports (outcome_of b) x
-    → Put l 0 (lines_of (meant x.outcome x.codes)) r l' → PrintGives b l r l'
+pub prints : (b l text : List ℕ) (x : Report) (r : ℕ) (l' : List ℕ) → most_bytes ≤ length l → Reports (outcome_of b) x → text ≡ lines_of (meant x)
+    → Put l 0 text r l' → PrintGives b l r l'
 unfolding PrintGives
-prints b l x r l' h told p =
-    put_as l 0 _ _ r l' (ap lines_of told.means ∙ lines_printed b ∙ sym (stop _ (printed b) [] (le-leb _ _ h))) p
+prints b l text x r l' h told is p =
+    subst (λ (y : List ℕ). Put l 0 y r l') (is ∙ ap lines_of told.means ∙ lines_printed b ∙ sym (stop _ (printed b) [] (le-leb _ _ h))) p
 
 -- what a caller asks of the count before it reads so many bytes
 pub print_counts : (b l : List ℕ) (r : ℕ) (l' : List ℕ) → PrintGives b l r l' → (r ≤ length l') × (r ≡ length (take r l'))

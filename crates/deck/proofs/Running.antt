@@ -5,7 +5,7 @@ use native.Mathlib.Numerals.{add-one}
 use native.Mathlib.Omega.{arith}
 use mathlib.Core.List.{List, [], ◌∷◌, ◌++◌, map-append}
 use lib.ListN.{length, get_or, take, drop, set, replicate, length-map}
-use lib.Seq.{append_snoc, set_at, take-suc, take_at, drop_at, take-append_seam, take-length, length-take-le}
+use lib.Seq.{append_snoc, set_at, take-suc, take-append_seam, take-length, length-take-le}
 use lib.Dec.{eqb}
 use borrow.Author.Tests.{eq-eqb}
 use Rattle.meaning.specs.declared.Record.{Record}
@@ -27,16 +27,14 @@ use Rattle.deck.specs.Meant.{codes_of, chain_outcome}
 
 -- ---- the codes
 
--- the codes of the first k commands, in front of zeros
-abbrev pub codes_to : List Record → ℕ → List ℕ
-codes_to table k = codes_of (take k table) ++ replicate (32 - k) 0
+-- the code of one more command
+module _ (table : List Record) (z : Record) where
+  length_codes : (k : ℕ) → k ≤ length table → length (codes_of (take k table)) ≡ k
+  length_codes k h = length-map (take k table) (λ (r : Record). r.code) ∙ length-take-le k table h
 
-module _ (table : List Record) (full : length table ≡ 32) where
-  length_codes : (k : ℕ) → k ≤ 32 → length (codes_of (take k table)) ≡ k
-  length_codes k h = length-map (take k table) (λ (r : Record). r.code) ∙ length-take-le k table (omega arith)
-
-  pub codes_more : (codes : List ℕ) (k : ℕ) (z : Record) → k < 32 → codes ≡ codes_to table k → set codes k (get_or table k z).code ≡ codes_to table (k + 1)
-  codes_more codes k z h e =
+  pub codes_more : (codes : List ℕ) (k : ℕ) → k < length table → length table ≤ 32 → codes ≡ codes_of (take k table) ++ replicate (32 - k) 0
+      → set codes k (get_or table k z).code ≡ codes_of (take (k + 1) table) ++ replicate (32 - (k + 1)) 0
+  codes_more codes k h few e =
       let one_less : 32 - k ≡ suc (32 - (k + 1)) = omega arith in
       let code = (get_or table k z).code in
       let rest : List ℕ = replicate (32 - (k + 1)) 0 in
@@ -44,13 +42,7 @@ module _ (table : List Record) (full : length table ≡ 32) where
       ∙ set_at (codes_of (take k table)) 0 rest code k (length_codes k (omega arith))
       ∙ sym (append_snoc (codes_of (take k table)) code rest)
       ∙ ap (λ (x : List ℕ). x ++ rest) (sym (map-append (λ (r : Record). r.code) (take k table) (get_or table k z ∷ [])))
-      ∙ ap (λ (x : List Record). codes_of x ++ rest) (sym (take-suc table k z (omega arith)) ∙ ap (λ (n : ℕ). take n table) (sym (add-one k)))
-
-  pub codes_front : (k : ℕ) → k ≤ 32 → take k (codes_to table k) ≡ codes_of (take k table)
-  codes_front k h = take_at (codes_of (take k table)) (replicate (32 - k) 0) k (length_codes k h)
-
-  pub codes_rest : (k : ℕ) → k ≤ 32 → drop k (codes_to table k) ≡ replicate (32 - k) 0
-  codes_rest k h = drop_at (codes_of (take k table)) (replicate (32 - k) 0) k (length_codes k h)
+      ∙ ap (λ (x : List Record). codes_of x ++ rest) (sym (take-suc table k z h) ∙ ap (λ (n : ℕ). take n table) (sym (add-one k)))
 
 -- ---- the outcome of a chain
 

@@ -1,5 +1,5 @@
 // A deck and what it lays: records of 32 bytes, whose IOPBs go to memory, and the drives and image that the chain runs on.
-ghost use Rattle.std.specs.Prelude.{◌≡◌, ◌+◌, ◌*◌, ◌/◌, ◌≤◌, length, replicate, eqb};
+ghost use Rattle.std.specs.Prelude.{◌≡◌, ◌+◌, ◌*◌, ◌/◌, ◌%◌, ◌≤◌, ◌&&◌, not, length, eqb, leb};
 ghost use Rattle.meaning.specs.Sectors.{sector_bytes};
 ghost use Rattle.meaning.specs.Deck as deck;
 
@@ -20,48 +20,28 @@ fn fillers_right(bytes: &[u8], k: usize) -> bool
     requires { 32 * k + 32 ≤ length bytes.now }
     ensures { result ≡ deck.fillers_right bytes.now k }
 {
-    if bytes[RECORD_BYTES * k + 30] != 0 {
-        return false;
-    }
-    let last = bytes[RECORD_BYTES * k + 31];
-    if k == 0 {
-        return last <= 1;
-    }
-    last == 0
+    bytes[RECORD_BYTES * k + 30] == 0 && bytes[RECORD_BYTES * k + 31] <= u8::from(k == 0)
+}
+
+// Whether so many bytes are whole records, 1 to 32 of them.
+fn whole_records(count: usize) -> bool
+    ensures { result ≡ (not (eqb count 0) && eqb (count % 32) 0 && leb (count / 32) 32) }
+{
+    count != 0 && count % RECORD_BYTES == 0 && count / RECORD_BYTES <= MOST_RECORDS
 }
 
 // Whether the bytes are a deck.
 pub fn is_deck(bytes: &[u8]) -> bool
     ensures { result ≡ deck.is_deck bytes.now }
 {
-    if bytes.len() == 0 {
-        return false;
-    }
-    if bytes.len() % RECORD_BYTES != 0 {
-        return false;
-    }
-    let records = bytes.len() / RECORD_BYTES;
-    if MOST_RECORDS < records {
-        return false;
-    }
-    let mut k = 0;
-    while k < records {
-        if !fillers_right(bytes, k) {
-            return false;
-        }
-        k += 1;
-    }
-    true
+    whole_records(bytes.len()) && (0..bytes.len() / RECORD_BYTES).all(|k| fillers_right(bytes, k))
 }
 
 // Byte 31 of the first record protects the drive.
 fn protects(bytes: &[u8]) -> bool
     ensures { result ≡ eqb (deck.byte_in bytes.now 0 31) 1 }
 {
-    if bytes.len() <= 31 {
-        return false;
-    }
-    bytes[31] == 1
+    matches!(bytes.get(31), Some(1))
 }
 
 // The drive of the bench: maxima 1, 1 and 7, the last head's too, and protected where byte 31 of the first record says so.
@@ -106,28 +86,14 @@ fn lay_record(bytes: &[u8], memory: &mut [u8], k: usize)
     memory[from..end].copy_from_slice(&bytes[from..end]);
 }
 
-// Every byte becomes v.
-fn fill(run: &mut [u8], v: u8)
-    ensures { run.new ≡ replicate (length run.old) v }
-{
-    let mut k = 0;
-    while k < run.len() {
-        run[k] = v;
-        k += 1;
-    }
-}
-
 // The memory of the bench: zeros, and the IOPB of each record at its place.
 pub(crate) fn lay(bytes: &[u8], memory: &mut [u8])
     requires { (length memory.old ≡ deck.memory_bytes) × (deck.record_count bytes.now ≤ deck.most_records) }
     ensures { memory.new ≡ deck.bench_memory bytes.now }
 {
-    fill(memory, 0);
-    let records = bytes.len() / RECORD_BYTES;
-    let mut k = 0;
-    while k < records {
+    memory.fill(0);
+    for k in 0..bytes.len() / RECORD_BYTES {
         lay_record(bytes, memory, k);
-        k += 1;
     }
 }
 
@@ -136,12 +102,8 @@ pub(crate) fn fill_image(image: &mut [u8])
     requires { length image.old ≡ sector_bytes * 32 }
     ensures { image.new ≡ deck.bench_image }
 {
-    let mut n: u8 = 0;
-    let mut at = 0;
-    while n < 32 {
-        let end = at + 512;
-        fill(&mut image[at..end], n);
-        at = end;
-        n += 1;
+    for n in 0..32u8 {
+        let at = 512 * usize::from(n);
+        image[at..at + 512].fill(n);
     }
 }

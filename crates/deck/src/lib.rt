@@ -5,17 +5,19 @@ pub mod laid;
 pub mod lines;
 pub mod run;
 
-// What comes of a deck: it is none; the walk refuses its chain, with this number; or so many commands ran, in so many steps.
+// What comes of a deck whose chain ran: so many commands, in so many steps, and the codes of the commands in front of zeros.
+// stays: the count beside the codes, since the report is one value only with the zeros in it (`EachHasOneReply`)
 #[derive(Clone, Copy)]
-pub enum Outcome {
-    NoDeck,
-    NoChain(u8),
-    Ran { commands: usize, steps: u64 },
+pub struct RanChain {
+    pub commands: usize,
+    pub steps: u64,
+    pub codes: [u8; 32],
 }
 
-// An outcome, with the codes of its commands in front of zeros.
-#[derive(Clone, Copy)]
-pub struct Report {
-    pub outcome: Outcome,
-    pub codes: [u8; 32],
+// Why none runs: the bytes are no deck, or the walk refuses its chain, with this number.
+// stays: a number, as the walk's answer to C has it (`Walked`)
+#[derive(Clone, Copy, Debug, PartialEq, Eq)]
+pub enum Refused {
+    NoDeck,
+    NoChain(u8),
 }

@@ -5,28 +5,26 @@ ghost use Rattle.meaning.specs.Drives.{drives_of};
 ghost use Rattle.meaning.specs.Bench.{outcome_of};
 ghost use Rattle.deck.specs.Meant.{Reports, codes_of, chain_outcome};
 
-use crate::{Outcome, Report, laid};
+use crate::{RanChain, Refused, laid};
 use chain::walk;
 use meaning::{LentDrives, Record};
 
 // The codes of the commands, in front of zeros.
-fn codes_of(table: [Record; 32], commands: usize) -> [u8; 32]
+// stays: the whole table and a count, since the check knows its length here and not where the walk answers it
+fn codes_of(table: &[Record; 32], commands: usize) -> [u8; 32]
     requires { commands ≤ 32 }
-    ensures codes { take commands result ≡ codes_of (take commands table) }
+    ensures codes { take commands result ≡ codes_of (take commands table.now) }
     ensures rest { drop commands result ≡ replicate (32 - commands) 0 }
 {
     let mut codes = [0u8; 32];
-    let mut k = 0;
-    while k < commands {
-        let r = table[k];
-        codes[k] = r.code;
-        k += 1;
+    for (place, command) in table[..commands].iter().enumerate() {
+        codes[place] = command.code;
     }
     codes
 }
 
 // The chain at 0 in memory: walked, and run as written to its end. The units above 0 have empty images.
-fn run_chain(memory: &mut [u8], image: &mut [u8], l: LentDrives) -> Report
+fn run_chain(memory: &mut [u8], image: &mut [u8], l: LentDrives) -> Result<RanChain, Refused>
     ensures { Reports (chain_outcome (drives_of l) (lent memory.old (images image.old [] [] []))) result }
 {
     let mut none1 = [0u8; 0];
@@ -45,10 +43,7 @@ fn run_chain(memory: &mut [u8], image: &mut [u8], l: LentDrives) -> Report
     let walked = w.walked;
     let number = walked.number;
     if number != 0 {
-        return Report {
-            outcome: Outcome::NoChain(number),
-            codes: [0; 32],
-        };
+        return Err(Refused::NoChain(number));
     }
     let table = w.table;
     let commands = walked.commands;
@@ -57,24 +52,19 @@ fn run_chain(memory: &mut [u8], image: &mut [u8], l: LentDrives) -> Report
         memory, image, &mut none1, &mut none2, &mut none3, l, table, commands, budget,
     );
     let ran = run.ran;
-    Report {
-        outcome: Outcome::Ran {
-            commands,
-            steps: ran.steps,
-        },
-        codes: codes_of(table, commands),
-    }
+    Ok(RanChain {
+        commands,
+        steps: ran.steps,
+        codes: codes_of(&table, commands),
+    })
 }
 
 // What comes of the bytes of a deck.
-pub fn run_deck(bytes: &[u8]) -> Report
+pub fn run_deck(bytes: &[u8]) -> Result<RanChain, Refused>
     ensures { Reports (outcome_of bytes.now) result }
 {
     if !laid::is_deck(bytes) {
-        return Report {
-            outcome: Outcome::NoDeck,
-            codes: [0; 32],
-        };
+        return Err(Refused::NoDeck);
     }
     let mut memory = [0u8; laid::MEMORY_BYTES];
     let mut image = [0u8; laid::IMAGE_BYTES];

@@ -1,12 +1,10 @@
--- `deck::run::codes_of` meets its contract: after k turns the first k codes stand in front of zeros.
+-- `deck::run::codes_of` meets its contract: after so many turns the codes of as many commands stand in front of zeros.
 use mathlib.Core.Path.{◌≡◌}
-use Prim.Native.Nat.{◌≤◌, ◌-◌}
-use lib.ListN.{length}
-use Rattle.deck.proofs.Running.{codes_to}
+use Prim.Native.Nat.{◌-◌}
+use mathlib.Core.List.{◌++◌}
+use lib.ListN.{take, replicate}
+use Rattle.deck.specs.Meant.{codes_of}
 use Rattle.deck.proofs.run.codes_of.Given as goal
 
-abbrev pub invariant-loop-k : goal.invariant-loop-k
-invariant-loop-k l = (l.k ≤ l.commands) × (length l.table ≡ 32) × (l.codes ≡ codes_to l.table l.k)
-
-abbrev pub decreases-loop-k : goal.decreases-loop-k
-decreases-loop-k l = l.commands - l.k
+abbrev pub invariant-loop-place : goal.invariant-loop-place
+invariant-loop-place l = l.codes ≡ codes_of (take l.place l.command-items) ++ replicate (32 - l.place) 0

@@ -49,5 +49,5 @@ returns c =
     ran_outcome (drives_of a.l) (lent a.memory.now (images a.image.now [] [] [])) w.result.walked w.result.table (gives walked) c.if-number-ne0.false
     budget.result run.result.ran _ budget.ensures run.ensures
     in
-    reports_ran _ (take w.result.walked.commands w.result.table) w.result.walked.commands run.result.ran.steps
-    c.codes_of.result (few walked c.if-number-ne0.false) c.codes_of.ensures.codes c.codes_of.ensures.rest told
+    reports_ran _ (take w.result.walked.commands w.result.table) w.result.walked.commands run.result.ran.steps c.codes_of.result
+    (few walked c.if-number-ne0.false) c.codes_of.ensures.codes c.codes_of.ensures.rest told
