@@ -22,8 +22,7 @@ use Rattle.meaning.specs.Run.{Tally, at_start, one_pick, picks_from, by_picks, a
 use Rattle.meaning.proofs.Means.{Means, holds, fails, means_lt}
 use Rattle.meaning.proofs.Numbers.{full_table, run_passed, most_32}
 use Rattle.meaning.proofs.Walks.{chain_most}
-use Rattle.tables.proofs.Longer.{longer, behind, run_longer, pick_longer, by_picks_longer, as_written_longer, finished_longer}
-use Rattle.tables.proofs.Kept.{forgotten, by_picks_kept, as_written_kept, length_kept}
+use Rattle.tables.proofs.Longer.{longer, behind, run_longer, pick_longer, by_picks_long, as_written_long, by_picks_longer, as_written_longer, finished_longer}
 use Rattle.firmware.specs.Agree.{front_of, rest_of, before, TwoFormsAgree}
 
 -- ---- a state is its front before its rest
@@ -92,9 +91,9 @@ module _ (d : Drives) (n p : ℕ) where
   picks_alone : (s : State) → PicksBehind s []
   picks_alone s k s' g = subst (λ (x : State). PickGives d n p x k (before s' [])) (sym (alone s)) (subst (PickGives d n p s k) (sym (alone s')) g)
 
--- ---- a run that changes nothing but steps taken, and nothing of records behind
+-- ---- a run that leaves a table as long as it was, and changes nothing of records behind
 
-module _ (d : Drives) (n : ℕ) (go : State → Tally) (kept : (s : State) → forgotten (go s).state.table ≡ forgotten s.table)
+module _ (d : Drives) (n : ℕ) (go : State → Tally) (long : (s : State) → length (go s).state.table ≡ length s.table)
     (behind-it : (s : State) (rest : List Record) → most_commands ≤ length s.table → n ≤ most_commands → go (longer s rest) ≡ behind (go s) rest) where
   abbrev RunsBehind : State → List Record → Type 0
   RunsBehind s rest = (r : Ran) (s' : State) → RunGives d n go s r s' → RunGives d n go (before s rest) r (before s' rest)
@@ -120,7 +119,7 @@ module _ (d : Drives) (n : ℕ) (go : State → Tally) (kept : (s : State) → f
     ended_long = by (eqb (run_number d n s) 0)
       where
         by : (b : Bool) → length (cond b (go s) (at_start s)).state.table ≡ length s.table
-        by true = length_kept s.table (go s).state.table (kept s)
+        by true = long s
         by false = refl
 
     reply_behind : run_reply d n go (longer s rest) ≡ run_reply d n go s
@@ -155,10 +154,10 @@ two_forms_agree = record {
   picks = λ d n p s k s' g. subst (λ (x : State). PickGives d n p x k (before s' (rest_of s))) (whole s) (by_front (PicksBehind d n p) (picks_alone d n p) (picks_behind d n p) s k s' g);
   runs_by_picks = λ d n ps s r s' g.
       subst (λ (x : State). RunGives d n (by_picks d n ps) x r (before s' (rest_of s))) (whole s)
-      (by_front (RunsBehind d n (by_picks d n ps) (by_picks_kept d n ps) (picks_stay d n ps)) (runs_alone d n (by_picks d n ps) (by_picks_kept d n ps) (picks_stay d n ps)) (runs_behind d n (by_picks d n ps) (by_picks_kept d n ps) (picks_stay d n ps)) s r s' g);
+      (by_front (RunsBehind d n (by_picks d n ps) (by_picks_long d n ps) (picks_stay d n ps)) (runs_alone d n (by_picks d n ps) (by_picks_long d n ps) (picks_stay d n ps)) (runs_behind d n (by_picks d n ps) (by_picks_long d n ps) (picks_stay d n ps)) s r s' g);
   runs_as_written = λ d n b s r s' g.
       subst (λ (x : State). RunGives d n (as_written d n b) x r (before s' (rest_of s))) (whole s)
-      (by_front (RunsBehind d n (as_written d n b) (as_written_kept d n b) (written_stay d n b)) (runs_alone d n (as_written d n b) (as_written_kept d n b) (written_stay d n b)) (runs_behind d n (as_written d n b) (as_written_kept d n b) (written_stay d n b)) s r s' g);
+      (by_front (RunsBehind d n (as_written d n b) (as_written_long d n b) (written_stay d n b)) (runs_alone d n (as_written d n b) (as_written_long d n b) (written_stay d n b)) (runs_behind d n (as_written d n b) (as_written_long d n b) (written_stay d n b)) s r s' g);
 }
   where
     picks_stay : (d : Drives) (n : ℕ) (ps : List ℕ) (s : State) (rest : List Record) → most_commands ≤ length s.table → n ≤ most_commands → by_picks d n ps (longer s rest) ≡ behind (by_picks d n ps s) rest

@@ -1,3 +1,2 @@
--- What the exported functions say in their contracts beside the rules, and what is proved of those contracts.
-pub mod Laid
+-- What is proved of the exported functions' contracts.
 pub mod Agree

@@ -5,7 +5,10 @@ ghost use Rattle.meaning.specs.Store.{lent, images};
 ghost use Rattle.meaning.specs.Drives.{drives_of};
 ghost use Rattle.meaning.specs.Look.{look_number, looked_part};
 
+use crate::number_of;
+use meaning::lends::LentDisks;
 use meaning::{LentDrives, Part};
+use units::look;
 
 // The number of a look: 1 for an image of a wrong size, then 11 for an absent unit, then 10 for no such sector, otherwise 0.
 #[unsafe(no_mangle)]
@@ -20,7 +23,14 @@ pub extern "C" fn rosadenca_look_number(
 ) -> u8
     ensures { result ≡ look_number (drives_of drives) unit sector (lent [] (images image0.now image1.now image2.now image3.now)) }
 {
-    units::look::look_number(image0, image1, image2, image3, drives, unit, sector)
+    let disks = LentDisks {
+        image0,
+        image1,
+        image2,
+        image3,
+        drives,
+    };
+    number_of(look::look_number(disks, unit, sector))
 }
 
 // Where the sector's 512 bytes are in the unit's image; an empty part exactly where the look's number is not 0.
@@ -36,11 +46,18 @@ pub extern "C" fn rosadenca_look(
 ) -> Part
     ensures { result ≡ looked_part (drives_of drives) unit sector (lent [] (images image0.now image1.now image2.now image3.now)) }
 {
-    if units::look::look_number(image0, image1, image2, image3, drives, unit, sector) != 0 {
-        return Part { at: 0, length: 0 };
-    }
-    Part {
-        at: drive::SECTOR_BYTES as usize * sector as usize,
-        length: drive::SECTOR_BYTES as usize,
+    let disks = LentDisks {
+        image0,
+        image1,
+        image2,
+        image3,
+        drives,
+    };
+    match look::look_number(disks, unit, sector) {
+        Ok(()) => Part {
+            at: drive::SECTOR_BYTES as usize * sector as usize,
+            length: drive::SECTOR_BYTES as usize,
+        },
+        Err(_) => Part { at: 0, length: 0 },
     }
 }

@@ -1,7 +1,6 @@
 // The walk, the pick, the two runs and a chain's steps over a table that is lent as a run of records, for C and Rust to call. They are
-// thin over functions on values, and mean the same as those on a table by value (Record 2); a lent table shorter than 32 gets 1 (Size 4).
-// The walk makes its records where they lie in the lent table, so that none is copied. The runs test the length before they copy the table
-// out, not after: with one case left, of exactly 32 records, the compiler makes one copy and fills nothing.
+// thin over the same calls of `chain` and `board`, and mean the same as those on a table by value (Record 2); a lent table shorter than 32
+// gets 1 (Size 4). No call copies the table.
 ghost use Rattle.std.specs.Prelude.{◌≡◌, min};
 ghost use Rattle.meaning.specs.Store.{lent, images};
 ghost use Rattle.meaning.specs.Drives.{drives_of};
@@ -10,8 +9,10 @@ ghost use Rattle.meaning.specs.Walk.{WalkGives};
 ghost use Rattle.meaning.specs.Pick.{PickGives};
 ghost use Rattle.meaning.specs.Run.{chain_steps, by_picks, as_written, RunGives};
 
-use crate::laid;
-use chain::walk::MOST_COMMANDS;
+use crate::number_of;
+use board::{pick, run};
+use chain::walk;
+use meaning::lends::{LentDisks, LentStore};
 use meaning::{LentDrives, Ran, Record, Walked};
 
 // The walk: records past the last command, and all of them on a refusal, are left alone (Walk 1 to 10, Record 7).
@@ -28,19 +29,14 @@ pub extern "C" fn rosadenca_walk(
 ) -> Walked
     ensures { WalkGives (drives_of drives) start (state_in (lent memory.now (images image0.now image1.now image2.now image3.now)) table.old) result table.new }
 {
-    let f = chain::walk::find(
-        memory,
+    let disks = LentDisks {
         image0,
         image1,
         image2,
         image3,
         drives,
-        start,
-        table.len(),
-    );
-    let walked = f.walked;
-    laid::fill(memory, drives, f.addresses, walked.commands, table);
-    walked
+    };
+    walk::answer_of(walk::walk_into(memory, disks, start, table))
 }
 
 // A pick: on 0 one step at its place (Pick 1 to 7).
@@ -58,19 +54,15 @@ pub extern "C" fn rosadenca_pick<'a>(
 ) -> u8
     ensures { PickGives (drives_of drives) commands place (state_in (lent memory.old (images image0.old image1.old image2.old image3.old)) table.old) result (state_in (lent memory.new (images image0.new image1.new image2.new image3.new)) table.new) }
 {
-    let length = table.len();
-    if length < MOST_COMMANDS {
-        return 1;
-    }
-    let size = memory.len() as u64;
-    let at = board::pick::place_seen(place);
-    let used = board::run::in_table(commands);
-    let seen = laid::look_over(table, size, drives, used, at);
-    let r = laid::record_at(table, at);
-    let p = board::pick::pick_seen(
-        memory, image0, image1, image2, image3, drives, r, seen, commands, place,
-    );
-    laid::put_taken(table, place, p)
+    let mut store = LentStore {
+        memory,
+        image0,
+        image1,
+        image2,
+        image3,
+        drives,
+    };
+    number_of(pick::pick(&mut store, table, commands, place))
 }
 
 // A run by picks: a refused pick is passed over, and counted (Run 1 to 4).
@@ -88,15 +80,15 @@ pub extern "C" fn rosadenca_run_picks<'a>(
 ) -> Ran
     ensures { RunGives (drives_of drives) commands (by_picks (drives_of drives) commands picks.now) (state_in (lent memory.old (images image0.old image1.old image2.old image3.old)) table.old) result (state_in (lent memory.new (images image0.new image1.new image2.new image3.new)) table.new) }
 {
-    let length = table.len();
-    if length < MOST_COMMANDS {
-        return board::run::refused(1);
-    }
-    let t = laid::load_first(table, MOST_COMMANDS);
-    let r = board::run::picks_taken(
-        memory, image0, image1, image2, image3, drives, t, length, commands, picks,
-    );
-    laid::put_steps(table, r)
+    let mut store = LentStore {
+        memory,
+        image0,
+        image1,
+        image2,
+        image3,
+        drives,
+    };
+    run::run_picks(&mut store, table, commands, picks)
 }
 
 // A run as written within a step budget: always the earliest unfinished command (Run 5).
@@ -114,22 +106,15 @@ pub extern "C" fn rosadenca_run_written<'a>(
 ) -> Ran
     ensures { RunGives (drives_of drives) commands (as_written (drives_of drives) commands budget) (state_in (lent memory.old (images image0.old image1.old image2.old image3.old)) table.old) result (state_in (lent memory.new (images image0.new image1.new image2.new image3.new)) table.new) }
 {
-    let length = table.len();
-    if length < MOST_COMMANDS {
-        return board::run::refused(1);
-    }
-    let t = laid::load_first(table, MOST_COMMANDS);
-    let r = board::run::written_taken(
-        memory, image0, image1, image2, image3, drives, t, length, commands, budget,
-    );
-    laid::put_steps(table, r)
-}
-
-// How many of so many commands have a record, in a table of this length.
-fn in_table(length: usize, commands: usize) -> usize
-    ensures { result ≡ min commands length }
-{
-    if commands < length { commands } else { length }
+    let mut store = LentStore {
+        memory,
+        image0,
+        image1,
+        image2,
+        image3,
+        drives,
+    };
+    run::run_written(&mut store, table, commands, budget)
 }
 
 // The steps of a chain, from its start: the sum of the steps of its commands, of 32 at most and of no more than the table has (Run 6).
@@ -137,6 +122,5 @@ fn in_table(length: usize, commands: usize) -> usize
 pub extern "C" fn rosadenca_chain_steps(table: &[Record], commands: usize) -> u64
     ensures { result ≡ chain_steps table.now (min commands most_commands) }
 {
-    let n = in_table(table.len(), commands);
-    board::run::chain_steps(laid::load(table), n)
+    run::chain_steps(table, commands)
 }

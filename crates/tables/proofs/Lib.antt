@@ -1,5 +1,2 @@
--- What a pick and a run tell of a caller's whole table: with more records behind those that it looks at, with the steps taken forgotten, and
--- in all.
+-- What a pick and a run tell of a caller's table with more records behind those that it looks at.
 pub mod Longer
-pub mod Kept
-pub mod Faces

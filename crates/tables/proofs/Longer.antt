@@ -1,23 +1,24 @@
 -- A table with more records behind it: a call that 1 and 9 let pass looks at its first records only, so its number is the same, and it
--- leaves the records behind alone.
+-- leaves the records behind alone. And a run leaves a table as long as it was.
 use mathlib.Core.Path.{◌≡◌, refl, sym, ap, ap₂, ◌∙◌}
-use Prim.Native.Nat.{ℕ, ◌+◌, ◌≤◌, ◌<◌}
+use Prim.Native.Nat.{ℕ, suc, ◌+◌, ◌-◌, ◌≤◌, ◌<◌, min}
 use native.Mathlib.Omega.{arith}
 use mathlib.Core.Bool.{Bool, true, false, cond}
 use mathlib.Core.List.{List, [], ◌∷◌, ◌++◌, append_assoc}
-use lib.ListN.{length, get_or, set, take, drop, length-set, length-append, get_or-append}
+use lib.ListN.{length, get_or, set, take, drop, length-set, length-append, get_or-append, take-append-drop}
 use lib.Seq.{take-append-le, drop-append-le, set-append_left}
 use lib.Dec.{leb, eqb}
 use borrow.Author.Tests.{eqb-true}
 use Rattle.meaning.specs.Drives.{Drives}
 use Rattle.meaning.specs.declared.Record.{Record}
 use Rattle.meaning.specs.Each.{some_of}
+use Rattle.meaning.specs.Store.{Store}
 use Rattle.meaning.specs.State.{State, most_commands}
 use Rattle.meaning.specs.Sizes.{sizes_wrong}
-use Rattle.meaning.specs.Command.{finished, no_record}
+use Rattle.meaning.specs.Command.{finished, remaining, no_record}
 use Rattle.meaning.specs.Step.{step, stepped}
 use Rattle.meaning.specs.Pick.{bad_record, spoiled, waits, place_number, pick_number, step_at}
-use Rattle.meaning.specs.Run.{Tally, at_start, one_pick, picks_from, by_picks, written, as_written, all_finished, run_number}
+use Rattle.meaning.specs.Run.{Tally, at_start, one_pick, picks_from, by_picks, advanced, steps_done, written, as_written, all_finished, run_number}
 use Rattle.meaning.proofs.Means.{Means, holds, fails, means_lt}
 use Rattle.meaning.proofs.Numbers.{full_table, pick_passed, place_free, most_32}
 use Rattle.board.proofs.Picking.{no_place, over_most, by_records}
@@ -131,6 +132,29 @@ picks_behind d n (p ∷ ps) y rest full =
 pub by_picks_longer : (d : Drives) (n : ℕ) (ps : List ℕ) (s : State) (rest : List Record) → most_commands ≤ length s.table → by_picks d n ps (longer s rest) ≡ behind (by_picks d n ps s) rest
 unfolding by_picks
 by_picks_longer d n ps s rest full = picks_behind d n ps (at_start s) rest full
+
+picks_long : (d : Drives) (n : ℕ) (ps : List ℕ) (y : Tally) → length (picks_from d n ps y).state.table ≡ length y.state.table
+unfolding picks_from
+picks_long d n [] y = refl
+picks_long d n (p ∷ ps) y = picks_long d n ps (one_pick d n p y) ∙ pick_long d n p y
+
+pub by_picks_long : (d : Drives) (n : ℕ) (ps : List ℕ) (s : State) → length (by_picks d n ps s).state.table ≡ length s.table
+unfolding by_picks
+by_picks_long d n ps s = picks_long d n ps (at_start s)
+
+written_long : (d : Drives) (b : ℕ) (t : List Record) (s : Store) → length (written d b t s).state.table ≡ length t
+unfolding written
+written_long d b [] s = refl
+written_long d b (r ∷ t) s = let k = min b (remaining r) in ap suc (written_long d (b - k) t (steps_done d k r s))
+
+pub as_written_long : (d : Drives) (n b : ℕ) (s : State) → length (as_written d n b s).state.table ≡ length s.table
+unfolding as_written
+as_written_long d n b s =
+    let w = written d b (take n s.table) s.store in
+    length-append w.state.table (drop n s.table)
+    ∙ ap (λ (k : ℕ). k + length (drop n s.table)) (written_long d b (take n s.table) s.store)
+    ∙ sym (length-append (take n s.table) (drop n s.table))
+    ∙ ap length (take-append-drop n s.table)
 
 pub as_written_longer : (d : Drives) (n b : ℕ) (s : State) (rest : List Record) → n ≤ length s.table → as_written d n b (longer s rest) ≡ behind (as_written d n b s) rest
 unfolding as_written

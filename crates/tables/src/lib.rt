@@ -1,158 +1,68 @@
-// The forms by value: a pick and both runs on a table that goes in and comes back by value. What they change is worked out in `board`, as it
-// is for a lent table, and laid here into the table.
+// The forms by value: a pick and both runs on a table that goes in and comes back by value. `board` has them on a lent table.
 #![tactic(auto)]
 
-ghost use Rattle.std.specs.Prelude.{◌≡◌, ◌≤◌, ◌<◌};
-ghost use Rattle.meaning.specs.Store.{lent, images};
+ghost use Rattle.std.specs.Prelude.{◌≡◌};
+ghost use Rattle.meaning.specs.Refusals.{told};
+ghost use Rattle.meaning.specs.Lends.{store_of, SameLent};
 ghost use Rattle.meaning.specs.Drives.{drives_of};
-ghost use Rattle.meaning.specs.State.{state_in, most_commands};
+ghost use Rattle.meaning.specs.State.{state_in};
 ghost use Rattle.meaning.specs.Bench.{no_records};
 ghost use Rattle.meaning.specs.Pick.{PickGives};
 ghost use Rattle.meaning.specs.Run.{RunGives, by_picks, as_written};
-ghost use Rattle.board.specs.Changes.{table_with};
-ghost use Rattle.board.specs.Sight.{sight_of};
 
-use board::pick::Sight;
-use board::{pick, run, table};
-use chain::links;
-use command::{sound, touch};
-use meaning::{LentDrives, PickedTable, RanTable, Record};
-use units::rooms;
-
-// How many records a table by value has: the most commands of a chain.
-const RECORDS: usize = chain::walk::MOST_COMMANDS;
+use board::run;
+use meaning::lends::LentStore;
+use meaning::refusals::Refusal;
+use meaning::{Ran, Record, WithTable};
 
 // A table that holds no command yet.
 pub fn no_records() -> [Record; 32]
     ensures { result ≡ no_records }
 {
-    let list = links::no_links();
-    let none = Record {
-        iopb: 0,
-        address: 0,
-        sector: 0,
-        taken: 0,
-        ranges: 0,
-        count: 0,
-        unit: 0,
-        byte0: 0,
-        code: 0,
-        fitted: 0,
-        list,
-    };
-    [none; 32]
+    [Record::default(); 32]
 }
 
-// The table with these steps taken.
-fn table_with(table: [Record; 32], taken: [u32; 32]) -> [Record; 32]
-    ensures { result ≡ table_with taken table }
-{
-    let mut after = table;
-    let mut k = 0;
-    while k < RECORDS {
-        after[k] = table::with_taken(after[k], taken[k]);
-        k += 1;
-    }
-    after
-}
-
-// What a pick sees of a table by value, of which n records are in use.
-fn look_over(table: [Record; 32], memory: u64, l: LentDrives, n: usize, place: usize) -> Sight
-    requires { (n ≤ most_commands) × (place < most_commands) }
-    ensures { result ≡ sight_of memory (drives_of l) n place table }
-{
-    let wanted = touch::footprint_of(table[place]);
-    let mut bad = false;
-    let mut blocked = false;
-    let mut k = 0;
-    let rooms = rooms::rooms_of(l);
-    while k < n {
-        let seen = sound::look(memory, rooms, table[k], wanted, k < place);
-        bad = bad | seen.bad;
-        if seen.near {
-            blocked = blocked | touch::ranges_conflict(table[k], table[place]);
-        }
-        k += 1;
-    }
-    Sight { bad, blocked }
-}
-
-// A pick on a table by value: on 0 one step at its place; on any other number nothing is changed.
+// A pick on a table by value: one step at its place, or nothing is changed.
 pub fn pick(
-    memory: &mut [u8],
-    image0: &mut [u8],
-    image1: &mut [u8],
-    image2: &mut [u8],
-    image3: &mut [u8],
-    l: LentDrives,
+    store: &mut LentStore<'_>,
     table: [Record; 32],
     commands: usize,
     place: usize,
-) -> PickedTable
-    ensures { PickGives (drives_of l) commands place (state_in (lent memory.old (images image0.old image1.old image2.old image3.old)) table) result.number (state_in (lent memory.new (images image0.new image1.new image2.new image3.new)) result.table) }
+) -> WithTable<Result<(), Refusal>>
+    ensures same { SameLent store.old store.new }
+    ensures gives { PickGives (drives_of store.old.drives) commands place (state_in (store_of store.old) table) (told result.answer) (state_in (store_of store.new) result.table) }
 {
-    let size = memory.len() as u64;
-    let at = pick::place_seen(place);
-    let seen = look_over(table, size, l, run::in_table(commands), at);
-    let picked = pick::pick_seen(
-        memory, image0, image1, image2, image3, l, table[at], seen, commands, place,
-    );
-    let mut after = table;
-    if picked.number == 0 {
-        after[at] = table::with_taken(table[at], picked.taken);
-    }
-    PickedTable {
-        number: picked.number,
-        table: after,
-    }
+    let mut table = table;
+    let answer = board::pick::pick(store, &mut table, commands, place);
+    WithTable { answer, table }
 }
 
 // A run by picks on a table by value: a refused pick is passed over, and counted. On 1 and 9 nothing is changed.
 pub fn run_picks(
-    memory: &mut [u8],
-    image0: &mut [u8],
-    image1: &mut [u8],
-    image2: &mut [u8],
-    image3: &mut [u8],
-    l: LentDrives,
+    store: &mut LentStore<'_>,
     table: [Record; 32],
     commands: usize,
     picks: &[u8],
-) -> RanTable
-    ensures { RunGives (drives_of l) commands (by_picks (drives_of l) commands picks.now) (state_in (lent memory.old (images image0.old image1.old image2.old image3.old)) table) result.ran (state_in (lent memory.new (images image0.new image1.new image2.new image3.new)) result.table) }
+) -> WithTable<Ran>
+    ensures same { SameLent store.old store.new }
+    ensures gives { RunGives (drives_of store.old.drives) commands (by_picks (drives_of store.old.drives) commands picks.now) (state_in (store_of store.old) table) result.answer (state_in (store_of store.new) result.table) }
 {
-    let r = run::picks_taken(
-        memory, image0, image1, image2, image3, l, table, RECORDS, commands, picks,
-    );
-    let ran = r.ran;
-    let taken = r.taken;
-    RanTable {
-        ran,
-        table: table_with(table, taken),
-    }
+    let mut table = table;
+    let answer = run::run_picks(store, &mut table, commands, picks);
+    WithTable { answer, table }
 }
 
 // A run as written on a table by value, within a step budget. On 1 and 9 nothing is changed.
 pub fn run_written(
-    memory: &mut [u8],
-    image0: &mut [u8],
-    image1: &mut [u8],
-    image2: &mut [u8],
-    image3: &mut [u8],
-    l: LentDrives,
+    store: &mut LentStore<'_>,
     table: [Record; 32],
     commands: usize,
     budget: u64,
-) -> RanTable
-    ensures { RunGives (drives_of l) commands (as_written (drives_of l) commands budget) (state_in (lent memory.old (images image0.old image1.old image2.old image3.old)) table) result.ran (state_in (lent memory.new (images image0.new image1.new image2.new image3.new)) result.table) }
+) -> WithTable<Ran>
+    ensures same { SameLent store.old store.new }
+    ensures gives { RunGives (drives_of store.old.drives) commands (as_written (drives_of store.old.drives) commands budget) (state_in (store_of store.old) table) result.answer (state_in (store_of store.new) result.table) }
 {
-    let r = run::written_taken(
-        memory, image0, image1, image2, image3, l, table, RECORDS, commands, budget,
-    );
-    let ran = r.ran;
-    let taken = r.taken;
-    RanTable {
-        ran,
-        table: table_with(table, taken),
-    }
+    let mut table = table;
+    let answer = run::run_written(store, &mut table, commands, budget);
+    WithTable { answer, table }
 }
