@@ -19,6 +19,7 @@ use Rattle.std.specs.Iterator.{Yields}
 use Rattle.std.specs.Fn.{ComputesOnPairs}
 use Rattle.std.specs.Slice.Iter.{chunk_by_steps, chunk_by_callee}
 use Rattle.std.specs.declared.slice.ChunkBy.{ChunkBy}
+use Rattle.std.proofs.lemmas.Bool.{cond-false, cond-true}
 use Rattle.meaning.specs.Drives.{Drives}
 use Rattle.meaning.specs.declared.Record.{Record}
 use Rattle.meaning.specs.Each.{some_of}
@@ -28,7 +29,6 @@ use Rattle.meaning.specs.Command.{finished, remaining, no_record}
 use Rattle.meaning.specs.Step.{step, stepped}
 use Rattle.meaning.specs.Pick.{waits, place_number, pick_number, step_at}
 use Rattle.meaning.specs.Run.{one_pick, picks_from, by_picks, advanced, steps_done, run_number}
-use Rattle.meaning.proofs.Rows.{pass, stop}
 use Rattle.meaning.proofs.Means.{Means, holds, fails, means_lt}
 use Rattle.meaning.proofs.Numbers.{Passed, run_passed, passed_place, place_free, free_place, none_bad, store_right, in_table}
 use Rattle.meaning.proofs.Records.{some_unfinished, unfinished_some, remaining_stepped}
@@ -120,7 +120,7 @@ module _ (d : Drives) (n : ℕ) (ps : List ℕ) (s₀ : Store) (t₀ : List Reco
             counted = omega (arith, w.counted);
             passed = w.passed;
             watching = w.watching;
-            left = w.left ∙ ap (picks_from d n rest) (pass _ _ _ (ne_eqb _ _ (λ z. h (sym same_number ∙ z))));
+            left = w.left ∙ ap (picks_from d n rest) (cond-false _ _ _ (ne_eqb _ _ (λ z. h (sym same_number ∙ z))));
           }
 
       one_taken : place_number t n p ≡ 0 → Left (step d (here t) s) (set t p (stepped (here t))) (steps + 1) rest
@@ -136,7 +136,7 @@ module _ (d : Drives) (n : ℕ) (ps : List ℕ) (s₀ : Store) (t₀ : List Reco
             left =
                 w.left
                 ∙ ap (picks_from d n rest)
-                (stop _ _ _ (eq-eqb _ _ (same_number ∙ z)) ∙ ap (λ (x : ℕ). tally (steps + 1) w.refused (step_at d x (state_in s t))) e);
+                (cond-true _ _ _ (eq-eqb _ _ (same_number ∙ z)) ∙ ap (λ (x : ℕ). tally (steps + 1) w.refused (step_at d x (state_in s t))) e);
           }
 
     -- a place that may go, after a step at it that was not the last

@@ -9,8 +9,8 @@ use lib.ListN.{length, get_or, set}
 use lib.Dec.{eqb}
 use lib.Seq.{sets, set-get_or, get_or-set_same, get_or-set_other}
 use borrow.Author.Tests.{eq-eqb}
+use Rattle.std.proofs.lemmas.Bool.{cond-true}
 use Rattle.meaning.specs.Store.{Space, memory, disk, same, Store, lent, images, put}
-use Rattle.meaning.proofs.Rows.{stop}
 use Rattle.meaning.proofs.Means.{Means, holds, fails, means_eq}
 use Rattle.board.specs.OneUnit.{on_unit}
 
@@ -18,7 +18,7 @@ use Rattle.board.specs.OneUnit.{on_unit}
 
 module _ (u : ℕ) (m i : List ℕ) (s : Store) where
   pub unit_disk : on_unit u m i s (disk u) ≡ i
-  unit_disk = stop _ _ _ (eq-eqb u u refl)
+  unit_disk = cond-true _ _ _ (eq-eqb u u refl)
 
   module _ (bytes : List ℕ) (a : ℕ) where
     pub put_memory : put memory a bytes (on_unit u m i s) ≡ on_unit u (sets m a bytes) i s

@@ -1,6 +1,6 @@
 -- Several steps of one command at once. Its sectors, moved one after another, are moved as some bytes of its data at once (`Windows`), which
 -- without a list lie in one piece; no step but the last closes the command.
-use mathlib.Core.Path.{◌≡◌, refl, sym, ap, ap₂, subst, ◌∙◌}
+use mathlib.Core.Path.{◌≡◌, refl, sym, ap, subst, ◌∙◌}
 use mathlib.Core.Logic.{◌≢◌}
 use Prim.Native.Nat.{ℕ, zero, suc, ◌+◌, ◌*◌, ◌≤◌, ◌<◌}
 use native.Mathlib.Nat.{not-suc-le-zero}
@@ -10,12 +10,14 @@ use mathlib.Core.List.{List, [], ◌∷◌, map}
 use lib.ListN.{length, get_or, set}
 use lib.Seq.{sets}
 use borrow.Author.Tests.{eq-eqb, ne_eqb}
+use Rattle.std.proofs.lemmas.Bool.{cond-false, cond-true}
 use Rattle.meaning.specs.Drives.{Drives}
 use Rattle.meaning.specs.declared.Link.{Link}
+use Rattle.meaning.specs.declared.lends.LentStore.{LentStore}
 use Rattle.meaning.specs.declared.Record.{Record}
 use Rattle.meaning.specs.Store.{Store, memory, disk, lent, images, Move, move, moves}
 use Rattle.meaning.specs.Sectors.{sector_bytes}
-use Rattle.meaning.specs.Ranges.{Range, bytes}
+use Rattle.meaning.specs.Ranges.{Range}
 use Rattle.meaning.specs.Links.{range_of}
 use Rattle.meaning.specs.Command.{reads, writes, transfers, steps_of, remaining, links_of}
 use Rattle.meaning.specs.Touch.{data_bytes}
@@ -24,7 +26,6 @@ use Rattle.meaning.specs.Sizes.{store_wrong}
 use Rattle.meaning.specs.Pick.{bad_record}
 use Rattle.meaning.specs.Run.{steps_done}
 use Rattle.meaning.proofs.All.{All}
-use Rattle.meaning.proofs.Rows.{pass, stop}
 use Rattle.meaning.proofs.Spaces.{AsLong, length_moves, moves_append}
 use Rattle.meaning.proofs.Conditions.{good, right_store, Inside}
 use Rattle.meaning.proofs.Pieces.{data_plain, data_listed}
@@ -38,7 +39,7 @@ use Rattle.board.proofs.Windows.{sectors_window, plain_window}
 
 one_other : (r : Record) (s : Store) → reads r ≡ false → writes r ≡ false → moves (sector_move r r.taken) s ≡ s
 unfolding sector_move moves
-one_other r s e w = ap (λ (vs : List Move). moves vs s) (pass _ _ _ e ∙ pass _ _ _ w)
+one_other r s e w = ap (λ (vs : List Move). moves vs s) (cond-false _ _ _ e ∙ cond-false _ _ _ w)
 
 pub none_moved : (n : ℕ) (r : Record) (s : Store) → reads r ≡ false → writes r ≡ false → sectors_moved n r s ≡ s
 unfolding sectors_moved stepped with_taken
@@ -85,13 +86,7 @@ module _ (n : ℕ) (r : Record) (s : Store) (t : transfers r ≡ true) (y : Read
 
 -- a transfer that is ready, on memory and the image of its own unit
 module _ (n : ℕ) (r : Record) (m i : List ℕ) (t : transfers r ≡ true) (y : Ready n r (length m) (length i)) where
-  -- there is room for what it moves
-  pub plain_room : r.ranges ≡ 0 → (r.address + taken_bytes r + sector_bytes * n ≤ length m) × (on_disk r + taken_bytes r + sector_bytes * n ≤ length i)
-  plain_room plain =
-      let few = y.left t in
-      let all : All (Inside (length m)) (bytes r.address (sector_bytes * r.count) ∷ []) = subst (All (Inside (length m))) (data_plain r plain) (y.bytes t) in
-      (omega (arith, all.0), omega (arith, y.sectors t))
-
+  -- there is room for the pieces of its list
   pub listed_room : r.ranges ≢ 0 → All (λ x. Inside (length m) (range_of x)) (links_of r) × (on_disk r + (taken_bytes r + sector_bytes * n) ≤ length i)
   listed_room listed = (each (links_of r) (subst (All (Inside (length m))) (data_listed r listed) (y.bytes t)), omega (arith, y.sectors t))
     where
@@ -119,6 +114,10 @@ module _ (n : ℕ) (r : Record) (m i : List ℕ) (t : transfers r ≡ true) (y :
     pub listed_done : r.ranges ≢ 0 → Done (in_pieces n r)
     listed_done listed = done (in_pieces n r) (λ s. listed_moved n r (before s) t (ready_on s) listed)
 
+-- the images as they are lent
+abbrev pub lent_images : LentStore → List (List ℕ)
+lent_images s = images s.image0.now s.image1.now s.image2.now s.image3.now
+
 -- what is done to memory and the image of its unit u is done to all that is lent
 pub unit_done : (n : ℕ) (r : Record) (m : List ℕ) (is : List (List ℕ)) (u : ℕ) → r.unit ≡ u → u < length is → (m' i' : List ℕ)
     → ((s : Store) → on_unit r.unit m' i' s ≡ sectors_moved n r (on_unit r.unit m (get_or is u []) s)) → lent m' (set is u i') ≡ sectors_moved n r (lent m is)
@@ -141,11 +140,11 @@ module _ (d : Drives) (r : Record) (s : Store) where
 
   last_step : r.taken + 1 ≡ steps_of r → step d r s ≡ moves (close_move d r) moved
   unfolding step step_moves
-  last_step e = moves_append (sector_move r r.taken) _ s ∙ ap (λ (vs : List Move). moves vs moved) (stop _ _ _ (eq-eqb _ _ e))
+  last_step e = moves_append (sector_move r r.taken) _ s ∙ ap (λ (vs : List Move). moves vs moved) (cond-true _ _ _ (eq-eqb _ _ e))
 
   other_step : (r.taken + 1 ≡ steps_of r → ⊥) → step d r s ≡ moved
   unfolding step step_moves moves
-  other_step e = moves_append (sector_move r r.taken) _ s ∙ ap (λ (vs : List Move). moves vs moved) (pass _ _ _ (ne_eqb _ _ e))
+  other_step e = moves_append (sector_move r r.taken) _ s ∙ ap (λ (vs : List Move). moves vs moved) (cond-false _ _ _ (ne_eqb _ _ e))
 
 steps_stepped : (r : Record) → steps_of (stepped r) ≡ steps_of r
 unfolding steps_of stepped with_taken
@@ -204,9 +203,9 @@ module _ (d : Drives) (n : ℕ) (r : Record) (s : Store) (m : List ℕ) (is : Li
 
 pub steps_transfer : (r : Record) → transfers r ≡ true → steps_of r ≡ r.count
 unfolding steps_of
-steps_transfer r t = stop _ _ _ t
+steps_transfer r t = cond-true _ _ _ t
 
--- what 1 and 9 let pass, and what remains of a command, leave room for its steps
+-- what 1 and 9 let cond-false, and what remains of a command, leave room for its steps
 pub ready : (d : Drives) (s : Store) (r : Record) (n : ℕ) → store_wrong d s ≡ false → bad_record d s r ≡ false → n ≤ remaining r → Ready n r (length (s memory)) (length (s (disk r.unit)))
 unfolding remaining
 ready d s r n e b h =

@@ -1,15 +1,16 @@
 -- The numbers of a pick in their order, as the code tests them; what a look over the records in use tells of them; and what a pick gives,
 -- refused and accepted.
 use mathlib.Core.Path.{◌≡◌, refl, sym, ap, ◌∙◌, subst}
-use Prim.Native.Nat.{ℕ, ◌≤◌, ◌<◌, min}
+use Prim.Native.Nat.{ℕ, ◌≤◌, ◌<◌}
 use native.Mathlib.Omega.{arith}
-use mathlib.Core.Bool.{Bool, true, false, ◌||◌, cond}
+use mathlib.Core.Bool.{Bool, true, false, cond}
 use mathlib.Core.List.{List}
-use lib.ListN.{length, get_or, set, take, length-take}
-use lib.Seq.{take_all, take-take}
+use lib.ListN.{length, get_or, set, take}
+use lib.Seq.{take-take}
 use lib.Dec.{ltb, leb, eqb}
-use borrow.Author.Tests.{lt-ltb, le-ltb, ltb-false, le-leb, lt-leb, eq-eqb, ne_eqb}
+use borrow.Author.Tests.{lt-ltb, le-ltb, le-leb, lt-leb, eq-eqb, ne_eqb}
 use Rattle.std.specs.Prelude.{Result, Ok, Err}
+use Rattle.std.proofs.lemmas.Bool.{cond-false, cond-true, or_left}
 use Rattle.meaning.specs.Drives.{Drives}
 use Rattle.meaning.specs.declared.Record.{Record}
 use Rattle.meaning.specs.declared.refusals.Refusal.{Refusal}
@@ -23,8 +24,7 @@ use Rattle.meaning.specs.Command.{finished, remaining, no_record}
 use Rattle.meaning.specs.Step.{step}
 use Rattle.meaning.specs.Run.{advanced}
 use Rattle.meaning.specs.Pick.{bad_record, spoiled, waits, place_number, pick_number, step_at, picked, PickGives}
-use Rattle.meaning.proofs.Rows.{pass, stop, or_first, or_second}
-use Rattle.meaning.proofs.Means.{Means, holds, fails, means_lt}
+use Rattle.meaning.proofs.Rows.{or_second}
 use Rattle.meaning.proofs.Numbers.{sizes_long, sizes_store}
 use Rattle.meaning.proofs.Records.{unfinished_some}
 use Rattle.command.specs.Data.{bad_in}
@@ -39,25 +39,25 @@ use Rattle.board.proofs.Searching.{none_here}
 module _ (t : List Record) (n p : ℕ) where
   pub no_place : n ≤ p → place_number t n p ≡ 8
   unfolding place_number
-  no_place h = stop (leb n p) _ _ (le-leb n p h)
+  no_place h = cond-true (leb n p) _ _ (le-leb n p h)
 
   module _ (in_use : p < n) where
     pub is_finished : finished (get_or t p no_record) ≡ true → place_number t n p ≡ 7
     unfolding place_number
-    is_finished f = pass (leb n p) _ _ (lt-leb n p in_use) ∙ stop (finished (get_or t p no_record)) _ _ f
+    is_finished f = cond-false (leb n p) _ _ (lt-leb n p in_use) ∙ cond-true (finished (get_or t p no_record)) _ _ f
 
     pub has_to_wait : finished (get_or t p no_record) ≡ false → waits t p ≡ true → place_number t n p ≡ 6
     unfolding place_number
-    has_to_wait f w = pass (leb n p) _ _ (lt-leb n p in_use) ∙ pass (finished (get_or t p no_record)) _ _ f ∙ stop (waits t p) _ _ w
+    has_to_wait f w = cond-false (leb n p) _ _ (lt-leb n p in_use) ∙ cond-false (finished (get_or t p no_record)) _ _ f ∙ cond-true (waits t p) _ _ w
 
     pub may_go : finished (get_or t p no_record) ≡ false → waits t p ≡ false → place_number t n p ≡ 0
     unfolding place_number
-    may_go f w = pass (leb n p) _ _ (lt-leb n p in_use) ∙ pass (finished (get_or t p no_record)) _ _ f ∙ pass (waits t p) _ _ w
+    may_go f w = cond-false (leb n p) _ _ (lt-leb n p in_use) ∙ cond-false (finished (get_or t p no_record)) _ _ f ∙ cond-false (waits t p) _ _ w
 
 -- over 32 commands spoil a table, and otherwise a bad record in use does
 pub over_most : (d : Drives) (n : ℕ) (s : State) → most_commands < n → spoiled d n s ≡ true
 unfolding spoiled
-over_most d n s h = or_first (ltb most_commands n) _ (lt-ltb most_commands n h)
+over_most d n s h = or_left (ltb most_commands n) _ (lt-ltb most_commands n h)
 
 pub by_records : (d : Drives) (n : ℕ) (s : State) → n ≤ most_commands → spoiled d n s ≡ some_of (bad_record d s.store) (take n s.table)
 unfolding spoiled
@@ -72,16 +72,16 @@ module _ (d : Drives) (n p : ℕ) (s : Store) (t : List Record) where
   -- a refusal changes nothing
   pub refused_gives : (k : ℕ) → pick_number d n p whole ≡ k → (k ≡ 0 → ⊥) → PickGives d n p whole k whole
   unfolding PickGives picked
-  refused_gives k e h = (sym e, sym (pass (eqb (pick_number d n p whole) 0) _ _ (ne_eqb _ 0 (λ q. h (sym e ∙ q)))))
+  refused_gives k e h = (sym e, sym (cond-false (eqb (pick_number d n p whole) 0) _ _ (ne_eqb _ 0 (λ q. h (sym e ∙ q)))))
 
   pub wrong_sizes : sizes_wrong d whole ≡ true → pick_number d n p whole ≡ 1
   unfolding pick_number
-  wrong_sizes e = stop _ _ _ e
+  wrong_sizes e = cond-true _ _ _ e
 
   module _ (right : sizes_wrong d whole ≡ false) where
     pub too_many : most_commands < n → pick_number d n p whole ≡ 9
     unfolding pick_number
-    too_many h = pass _ _ _ right ∙ stop _ _ _ (over_most d n whole h)
+    too_many h = cond-false _ _ _ right ∙ cond-true _ _ _ (over_most d n whole h)
 
     module _ (few : n ≤ most_commands) where
       -- where sizes are right, what was tested of the records is what number 9 asks
@@ -105,11 +105,11 @@ module _ (d : Drives) (n p : ℕ) (s : Store) (t : List Record) where
       tells : (b : Bool) → some_of (bad_in (length (s memory)) d) (take n t) ≡ b
           → Told (cond b (Err Spoiled) (Ok (some_of (blocking (get_or t (place_seen p) no_record)) (take p (take n t)))))
       unfolding pick_number waits
-      tells true e = pass _ _ _ right ∙ stop _ _ _ (sym seen_spoiled ∙ e)
+      tells true e = cond-false _ _ _ right ∙ cond-true _ _ _ (sym seen_spoiled ∙ e)
       tells false e =
           record {
             sound = sym seen_spoiled ∙ e;
-            number = pass _ _ _ right ∙ pass _ _ _ (sym seen_spoiled ∙ e);
+            number = cond-false _ _ _ right ∙ cond-false _ _ _ (sym seen_spoiled ∙ e);
             waiting =
                 λ h.
                 let own : place_seen p ≡ p = omega arith in
@@ -137,4 +137,4 @@ module _ (d : Drives) (n p : ℕ) (s : Store) (t : List Record) where
   -- one step is taken at the place
   pub accepted_gives : pick_number d n p whole ≡ 0 → (u : Store) (t' : List Record) → u ≡ step d (get_or t p no_record) s → t' ≡ set t p (advanced 1 (get_or t p no_record)) → PickGives d n p whole 0 (state_in u t')
   unfolding PickGives picked step_at advanced
-  accepted_gives e u t' eu et = (sym e, (λ j. record { table = et j; store = eu j }) ∙ sym (stop (eqb (pick_number d n p whole) 0) _ _ (eq-eqb _ 0 e)))
+  accepted_gives e u t' eu et = (sym e, (λ j. record { table = et j; store = eu j }) ∙ sym (cond-true (eqb (pick_number d n p whole) 0) _ _ (eq-eqb _ 0 e)))

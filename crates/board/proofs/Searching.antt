@@ -5,20 +5,21 @@ use Prim.Native.Nat.{ℕ, zero, suc, ◌+◌, ◌≤◌, ◌<◌}
 use native.Mathlib.Nat.{not-suc-le-zero}
 use native.Mathlib.Numerals.{add-one}
 use native.Mathlib.Omega.{arith}
-use mathlib.Core.Bool.{Bool, true, false, not, ◌&&◌, true≢false}
+use mathlib.Core.Bool.{Bool, true, false, not, ◌&&◌, true≢false, and-false}
 use mathlib.Core.List.{List, [], ◌∷◌}
 use lib.ListN.{length, get_or, set, take, replicate}
 use lib.Seq.{take-suc, take-set-le, get_or-set_same, get_or-set_other}
 use lib.Dec.{leb}
 use borrow.Author.Tests.{leb-true, le-leb, lt-leb}
+use Rattle.std.proofs.lemmas.Bool.{or_from, or_parts, and_left}
+use Rattle.std.proofs.lemmas.List.Folds.{list_any-append}
 use Rattle.meaning.specs.declared.Record.{Record}
 use Rattle.meaning.specs.Each.{some_of}
 use Rattle.meaning.specs.Command.{steps_of, finished, no_record}
 use Rattle.meaning.specs.Touch.{touched, conflict}
 use Rattle.meaning.specs.Step.{with_taken, stepped}
 use Rattle.meaning.specs.Pick.{waits}
-use Rattle.meaning.proofs.Rows.{or_none, or-false, and_first, and_second}
-use Rattle.meaning.proofs.Tests.{and_no, some_append}
+use Rattle.meaning.proofs.Rows.{and_second}
 use Rattle.meaning.proofs.Means.{Means, holds, fails, is_true, means_itself, means_eq, means_some}
 use Rattle.command.specs.declared.touch.Footprint.{Footprint}
 use Rattle.command.specs.Footprints.{footprint_of, footprints_meet}
@@ -35,8 +36,8 @@ module _ {A : Type 0} (z : A) (f : A → Bool) where
   none_more l k h e g =
       ap (λ (j : ℕ). some_of f (take j l)) (add-one k)
       ∙ ap (some_of f) (take-suc l k z h)
-      ∙ some_append f (take k l) (get_or l k z ∷ [])
-      ∙ or_none _ _ e (or_none _ _ g refl)
+      ∙ list_any-append f (take k l) (get_or l k z ∷ [])
+      ∙ or_from _ _ e (or_from _ _ g refl)
 
   -- one of the first p passes the test
   pub some_here : (l : List A) (k p : ℕ) → k < p → k < length l → f (get_or l k z) ≡ true → some_of f (take p l) ≡ true
@@ -54,14 +55,14 @@ module _ {A : Type 0} (z : A) (f : A → Bool) where
   none_set : (l : List A) (n q : ℕ) (y : A) → (f (get_or l q z) ≡ false → f y ≡ false) → some_of f (take n l) ≡ false → some_of f (take n (set l q y)) ≡ false
   none_set [] n q y h e = e
   none_set (x ∷ l) zero q y h e = e
-  none_set (x ∷ l) (suc n) zero y h e = let g = or-false (f x) (some_of f (take n l)) e in or_none _ _ (h g.0) g.1
-  none_set (x ∷ l) (suc n) (suc q) y h e = let g = or-false (f x) (some_of f (take n l)) e in or_none _ _ g.0 (none_set l n q y h g.1)
+  none_set (x ∷ l) (suc n) zero y h e = let g = or_parts (f x) (some_of f (take n l)) e in or_from _ _ (h g.0) g.1
+  none_set (x ∷ l) (suc n) (suc q) y h e = let g = or_parts (f x) (some_of f (take n l)) e in or_from _ _ g.0 (none_set l n q y h g.1)
 
 -- ---- who blocks whom
 
 -- a finished command blocks nothing, and any other by its conflict
 pub finished_free : (r e : Record) → finished e ≡ true → blocking r e ≡ false
-finished_free r e f = and_first (not (finished e)) (conflict e r) (ap not f)
+finished_free r e f = and_left (not (finished e)) (conflict e r) (ap not f)
 
 pub by_conflict : (r e : Record) (b : Bool) → finished e ≡ false → conflict e r ≡ b → blocking r e ≡ b
 by_conflict r e b f c = and_second (not (finished e)) (conflict e r) (ap not f) ∙ c
@@ -85,7 +86,7 @@ stepped_blocks r e h = go (finished e) refl h
       where
         later : finished e ≡ true → finished (stepped e) ≡ true
         later q = le-leb (steps_of e) (e.taken + 1) (omega (arith, leb-true (steps_of e) e.taken q))
-    go false f g = ap (λ (b : Bool). not (finished (stepped e)) && b) g ∙ and_no (not (finished (stepped e)))
+    go false f g = ap (λ (b : Bool). not (finished (stepped e)) && b) g ∙ and-false (not (finished (stepped e)))
 
 -- ---- by footprints
 

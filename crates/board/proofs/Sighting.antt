@@ -4,21 +4,22 @@ use mathlib.Core.Path.{◌≡◌, refl, sym, ap, ap₂, ◌∙◌}
 use Prim.Native.Nat.{ℕ, ◌+◌, ◌≤◌, ◌<◌, min}
 use native.Mathlib.Numerals.{add-one}
 use native.Mathlib.Omega.{arith}
-use mathlib.Core.Bool.{Bool, true, false, not, ◌&&◌, ◌||◌, false≢true}
+use mathlib.Core.Bool.{Bool, true, false, not, ◌&&◌, ◌||◌, false≢true, or-false}
 use mathlib.Core.List.{List, [], ◌∷◌}
 use lib.ListN.{length, get_or, take}
 use lib.Seq.{take-suc, take_all}
 use lib.Dec.{ltb}
 use borrow.Author.Tests.{lt-ltb, le-ltb}
 use Rattle.std.specs.Prelude.{Ok, Err}
+use Rattle.std.proofs.lemmas.Bool.{and_left, cond-false, cond-true}
+use Rattle.std.proofs.lemmas.List.Folds.{list_any-append}
 use Rattle.meaning.specs.Drives.{Drives}
 use Rattle.meaning.specs.declared.Record.{Record}
 use Rattle.meaning.specs.declared.refusals.Refusal.TheVariants.{Spoiled}
 use Rattle.meaning.specs.Each.{some_of}
 use Rattle.meaning.specs.Command.{finished, no_record}
 use Rattle.meaning.specs.Touch.{conflict}
-use Rattle.meaning.proofs.Rows.{and_first, and_second, pass, stop}
-use Rattle.meaning.proofs.Tests.{or_no, some_append}
+use Rattle.meaning.proofs.Rows.{and_second}
 use Rattle.meaning.proofs.Means.{Means, holds, fails, means_lt}
 use Rattle.command.specs.Footprints.{footprint_of, footprints_meet}
 use Rattle.command.specs.Data.{bad_in}
@@ -41,14 +42,11 @@ module _ (size : ℕ) (d : Drives) (wanted : Record) (p : ℕ) (t : List Record)
   abbrev pub Seen : ℕ → Bool → Type 0
   Seen k w = (some_of (bad_in size d) (take k t) ≡ false) × (w ≡ waits_for k)
 
-  pub seen_none : Seen 0 false
-  seen_none = (refl, let e : 0 ≡ min 0 p = omega arith in ap (λ (k : ℕ). some_of (blocking wanted) (take k t)) e)
-
   pub seen_all : (w : Bool) → Seen (length t) w → Ok w ≡ looked_over size d wanted p t
   unfolding looked_over
   seen_all w y =
       ap Ok (y.1 ∙ ap (some_of (blocking wanted)) before)
-      ∙ sym (pass (some_of (bad_in size d) t) (Err Spoiled) _ (sym (ap (some_of (bad_in size d)) (take_all (length t) t (omega arith))) ∙ y.0))
+      ∙ sym (cond-false (some_of (bad_in size d) t) (Err Spoiled) _ (sym (ap (some_of (bad_in size d)) (take_all (length t) t (omega arith))) ∙ y.0))
     where
       before : take (min (length t) p) t ≡ take p t
       before = go (means_lt (length t) p)
@@ -70,8 +68,8 @@ module _ (size : ℕ) (d : Drives) (wanted : Record) (p : ℕ) (t : List Record)
         let before : k ≡ min k p = omega arith in
         ap (λ (j : ℕ). some_of (blocking wanted) (take j t)) (after ∙ add-one k)
         ∙ ap (some_of (blocking wanted)) (take-suc t k no_record here)
-        ∙ some_append (blocking wanted) (take k t) (r ∷ [])
-        ∙ ap (λ (b : Bool). some_of (blocking wanted) (take k t) || b) (or_no (blocking wanted r))
+        ∙ list_any-append (blocking wanted) (take k t) (r ∷ [])
+        ∙ ap (λ (b : Bool). some_of (blocking wanted) (take k t) || b) (or-false (blocking wanted r))
         ∙ ap (λ (j : ℕ). some_of (blocking wanted) (take j t) || blocking wanted r) before
 
     later_same : p ≤ k → waits_for (k + 1) ≡ waits_for k
@@ -83,7 +81,7 @@ module _ (size : ℕ) (d : Drives) (wanted : Record) (p : ℕ) (t : List Record)
     near_blocks false m ef em e = and_second (not (finished r)) (conflict r wanted) (ap not ef)
 
     far_free : (f m : Bool) → finished r ≡ f → footprints_meet (footprint_of r) (footprint_of wanted) ≡ m → (not f && m) ≡ false → blocking wanted r ≡ false
-    far_free true m ef em e = and_first (not (finished r)) (conflict r wanted) (ap not ef)
+    far_free true m ef em e = and_left (not (finished r)) (conflict r wanted) (ap not ef)
     far_free false m ef em e = and_second (not (finished r)) (conflict r wanted) (ap not ef) ∙ no_conflict r wanted (em ∙ e)
 
     near_more : near ≡ true → {b : Bool} → Means (k < p) b → waits_for (k + 1) ≡ (waits_for k || conflict r wanted)
@@ -91,13 +89,13 @@ module _ (size : ℕ) (d : Drives) (wanted : Record) (p : ℕ) (t : List Record)
     near_more e (holds h) =
         let asked = sym (and_second (ltb k p) _ (lt-ltb k p h)) ∙ e in
         earlier_more h ∙ ap (λ (b : Bool). waits_for k || b) (near_blocks (finished r) _ refl refl asked)
-    near_more e (fails h) = absurd (false≢true (sym (and_first (ltb k p) _ (le-ltb k p (omega arith))) ∙ e))
+    near_more e (fails h) = absurd (false≢true (sym (and_left (ltb k p) _ (le-ltb k p (omega arith))) ∙ e))
 
     far_more : near ≡ false → {b : Bool} → Means (k < p) b → waits_for (k + 1) ≡ waits_for k
     unfolding may_block
     far_more e (holds h) =
         let asked = sym (and_second (ltb k p) _ (lt-ltb k p h)) ∙ e in
-        earlier_more h ∙ ap (λ (b : Bool). waits_for k || b) (far_free (finished r) _ refl refl asked) ∙ or_no (waits_for k)
+        earlier_more h ∙ ap (λ (b : Bool). waits_for k || b) (far_free (finished r) _ refl refl asked) ∙ or-false (waits_for k)
     far_more e (fails h) = later_same (omega arith)
 
     -- the record is looked at by rooms that these drives have: f is the footprint of the one that wants to go, x what the look gives
@@ -114,7 +112,7 @@ module _ (size : ℕ) (d : Drives) (wanted : Record) (p : ℕ) (t : List Record)
       unfolding looked_over
       seen_bad e =
           let some = some_here no_record (bad_in size d) t k (length t) here here (sym is-bad ∙ e) in
-          sym (stop (some_of (bad_in size d) t) (Err Spoiled) _ (sym (ap (some_of (bad_in size d)) (take_all (length t) t (omega arith))) ∙ some))
+          sym (cond-true (some_of (bad_in size d) t) (Err Spoiled) _ (sym (ap (some_of (bad_in size d)) (take_all (length t) t (omega arith))) ∙ some))
 
       -- one record more is seen: its ranges are tested only where the footprints meet, and v is what that test gives
       module _ (sound : x.bad ≡ false) (w v : Bool) (y : Seen k w) where
@@ -125,4 +123,4 @@ module _ (size : ℕ) (d : Drives) (wanted : Record) (p : ℕ) (t : List Record)
         seen_near e is = (good_more, ap₂ ◌||◌ y.1 is ∙ sym (near_more (sym is-near ∙ e) (means_lt k p)))
 
         pub seen_far : x.near ≡ false → v ≡ false → Seen (k + 1) (w || v)
-        seen_far e is = (good_more, ap₂ ◌||◌ y.1 is ∙ or_no (waits_for k) ∙ sym (far_more (sym is-near ∙ e) (means_lt k p)))
+        seen_far e is = (good_more, ap₂ ◌||◌ y.1 is ∙ or-false (waits_for k) ∙ sym (far_more (sym is-near ∙ e) (means_lt k p)))

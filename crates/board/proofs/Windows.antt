@@ -1,7 +1,7 @@
 -- Several sectors of a transfer moved at once. Some bytes of the data, from lo up to hi, lie in pieces, one of each range; moved up to a
 -- byte between and then from there on they are moved as one, since the later ranges hold only later bytes, and the two pieces of one range
 -- lie one behind the other. So the sectors of n steps are the bytes of n sectors, moved at once.
-use mathlib.Core.Path.{◌≡◌, refl, sym, ap, ap₂, subst, ◌∙◌, fun_ext}
+use mathlib.Core.Path.{◌≡◌, refl, sym, ap, ap₂, ◌∙◌, fun_ext}
 use Prim.Native.Nat.{ℕ, zero, suc, ◌+◌, ◌-◌, ◌*◌, ◌≤◌, ◌<◌, min}
 use native.Mathlib.Decide.{dec_le}
 use native.Mathlib.Omega.{arith}
@@ -12,6 +12,7 @@ use lib.Seq.{sets, drop-cons}
 use native.Mathlib.Numerals.{add-one}
 use native.Mathlib.Nat.{not-suc-le-zero, le_of_suc-le-suc}
 use Rattle.std.proofs.lemmas.List.{drop_all}
+use Rattle.std.proofs.lemmas.Bool.{cond-false}
 use Rattle.meaning.specs.declared.Link.{Link}
 use Rattle.meaning.specs.declared.Record.{Record}
 use Rattle.meaning.specs.Store.{Space, memory, disk, same, Store, Area, area, get, put, Move, copy, move, moves}
@@ -23,7 +24,6 @@ use Rattle.meaning.specs.Command.{reads, writes, transfers}
 use Rattle.meaning.specs.Touch.{data_bytes}
 use Rattle.meaning.specs.Step.{pieces_at, in_memory, in_sector, sector_move_by, sector_move, with_taken, stepped}
 use Rattle.meaning.proofs.All.{All}
-use Rattle.meaning.proofs.Rows.{pass}
 use Rattle.meaning.proofs.Means.{Means, holds, fails, means_eq}
 use Rattle.meaning.proofs.Spaces.{AsLong, length_moves}
 use Rattle.meaning.proofs.Conditions.{Inside}
@@ -50,7 +50,7 @@ behind : (q p : Space) (i a n c : ℕ) (s : Store) (z : Space) (b : Bool) → sa
     let once = cond b (sets (s z) a (take n (drop i (s q)))) (s z) in
     cond b (sets once (a + n) (take c (drop (i + n) from))) once ≡ cond b (sets (s z) a (take (n + c) (drop i (s q)))) (s z)
 behind q p i a n c s z true other h =
-    ap (λ (l : List ℕ). sets (sets (s z) a (take n (drop i (s q)))) (a + n) (take c (drop (i + n) l))) (pass _ _ _ other)
+    ap (λ (l : List ℕ). sets (sets (s z) a (take n (drop i (s q)))) (a + n) (take c (drop (i + n) l))) (cond-false _ _ _ other)
     ∙ copied_behind n c (s q) (s z) a i (a + n) (i + n) h refl refl
 behind q p i a n c s z false other h = refl
 

@@ -7,9 +7,9 @@ use mathlib.Core.List.{List}
 use lib.ListN.{length, get_or, take, drop, length-drop}
 use lib.Seq.{length-take-le, get_or-take, get_or-drop}
 use borrow.Author.Tests.{le-leb}
+use Rattle.std.proofs.lemmas.Bool.{cond-true}
 use Rattle.meaning.specs.Fields.{iopb_bytes, byte_of}
 use Rattle.meaning.specs.Code.{copied_at}
-use Rattle.meaning.proofs.Rows.{stop}
 
 module _ (m : List ℕ) (a : ℕ) (all : a + iopb_bytes ≤ length m) where
   abbrev alone : List ℕ
@@ -21,11 +21,11 @@ module _ (m : List ℕ) (a : ℕ) (all : a + iopb_bytes ≤ length m) where
   same_byte : (k : ℕ) → k < iopb_bytes → byte_of alone 0 k ≡ byte_of m a k
   unfolding byte_of
   same_byte k h =
-      stop _ _ _ (le-leb (0 + iopb_bytes) (length alone) (omega (arith, thirty)))
+      cond-true _ _ _ (le-leb (0 + iopb_bytes) (length alone) (omega (arith, thirty)))
       ∙ ap (λ (i : ℕ). get_or alone i 0) (zero-add k)
       ∙ get_or-take (a + iopb_bytes - a) (drop a m) k 0 (omega (arith, add-sub_cancel_left a iopb_bytes))
       ∙ get_or-drop a m k 0
-      ∙ sym (stop _ _ _ (le-leb (a + iopb_bytes) (length m) all))
+      ∙ sym (cond-true _ _ _ (le-leb (a + iopb_bytes) (length m) all))
 
   pub copied_alone : copied_at alone 0 ≡ copied_at m a
   unfolding copied_at

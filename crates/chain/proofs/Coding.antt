@@ -6,11 +6,12 @@ use mathlib.Core.Logic.{◌≢◌}
 use Prim.Native.Nat.{ℕ, ◌+◌, ◌*◌, ◌≤◌, ◌<◌, zero-le}
 use native.Mathlib.Nat.{add-zero}
 use native.Mathlib.Omega.{arith}
-use mathlib.Core.Bool.{Bool, true, false, not, ◌&&◌, ◌||◌, cond, true≢false}
+use mathlib.Core.Bool.{Bool, true, false, not, ◌&&◌, ◌||◌, cond, true≢false, and-false, or-false}
 use mathlib.Core.List.{List, [], ◌∷◌}
 use lib.ListN.{length, take, drop}
 use lib.Dec.{ltb, eqb}
 use borrow.Author.Tests.{eqb-true, eqb-false, eq-eqb, ne_eqb}
+use Rattle.std.proofs.lemmas.Bool.{cond-false, cond-true, or_parts}
 use Rattle.meaning.specs.declared.Copied.{Copied}
 use Rattle.meaning.specs.declared.Drive.{Drive}
 use Rattle.meaning.specs.declared.Link.{Link}
@@ -22,8 +23,7 @@ use Rattle.meaning.specs.Sectors.{sector_bytes}
 use Rattle.meaning.specs.Ranges.{bytes}
 use Rattle.meaning.specs.Links.{link_bytes, most_links, links_at, no_links, padded, range_of}
 use Rattle.meaning.specs.Code.{copied_at, nop, read, command_in, first_sector, gathers, link_count, links_in, list_outside, outside, odd, command_rows, transfer_rows, data_rows, code_of, fitted_of, early_code, links_read}
-use Rattle.meaning.proofs.Rows.{pass, stop, or-false}
-use Rattle.meaning.proofs.Tests.{and_no, or_no, some_map, sum-map}
+use Rattle.meaning.proofs.Tests.{some_map, sum-map}
 use Rattle.meaning.proofs.Means.{Means, holds, fails, means_lt}
 use Rattle.meaning.proofs.Numbers.{rows_off, off_last, off_last_in}
 use Rattle.meaning.proofs.Links.{few_links, some_links, length_links, links_kept}
@@ -100,8 +100,8 @@ module _ (column : Row → ℕ) (c : Copied) (d : Drive) (n : ℕ) (xs : List Li
         let last : (Row → ℕ) → ℕ → ℕ = λ f x. first_in f (drop 2 (command_rows c)) (first_in f (transfer_rows c d) x) in
         let off = rows_off first (last (λ r. r.gives) 0) none refl in
         let above = ltb read (command_in c.byte0) in
-        let sgm = (or-false above (gathers c && eqb (command_in c.byte0) nop) (or-false (above || gathers c && eqb (command_in c.byte0) nop) (not (eqb c.subfunction 0)) off.1.0).0).1 in
-        (first_off (gathers c) _ h sgm, off_last_in column first (last column by_data) off ∙ stop _ _ _ h)
+        let sgm = (or_parts above (gathers c && eqb (command_in c.byte0) nop) (or_parts (above || gathers c && eqb (command_in c.byte0) nop) (not (eqb c.subfunction 0)) off.1.0).0).1 in
+        (first_off (gathers c) _ h sgm, off_last_in column first (last column by_data) off ∙ cond-true _ _ _ h)
 
     -- of a transfer the data decides
     data_decides : eqb (command_in c.byte0) nop ≡ false → ruled ≡ by_data
@@ -116,7 +116,7 @@ module _ (column : Row → ℕ) (c : Copied) (n : ℕ) (transfer : eqb (command_
   plain_rows_lem : gathers c ≡ false → first_in column (plain_rows c n) 0 ≡ first_in column (data_rows c n []) 0
   plain_rows_lem g =
       let all : sector_bytes * c.count + 0 ≡ sector_bytes * c.count = add-zero (sector_bytes * c.count) in
-      rw (transfer, g, eq-eqb _ _ all, or_no (outside n (bytes c.address (sector_bytes * c.count)))) refl
+      rw (transfer, g, eq-eqb _ _ all, or-false (outside n (bytes c.address (sector_bytes * c.count)))) refl
 
   outside_rows : (xs : List Link) → gathers c ≡ true → list_outside c n ≡ true → first_in column (plain_rows c n) 0 ≡ first_in column (data_rows c n xs) 0
   outside_rows xs g o = rw (transfer, g, o) refl
@@ -138,7 +138,7 @@ list_verdict count n xs = go (not (eqb (sum_of (λ x. x.length) xs) (sector_byte
 -- how many elements are read, and what is fixed then
 to_read_none : (c : Copied) (early n : ℕ) → gathers c ≡ false → to_read c early n ≡ 0
 unfolding to_read
-to_read_none c early n g = rw (g, and_no (eqb early 0)) refl
+to_read_none c early n g = rw (g, and-false (eqb early 0)) refl
 
 module _ (c : Copied) (early n : ℕ) (none : early ≡ 0) (ys : List Link) where
   to_read_outside : gathers c ≡ true → list_outside c n ≡ true → to_read c early n ≡ 0
@@ -168,7 +168,7 @@ fault_code (PastMemory fitted) = refl
 
 pub late_fault : (c : Copied) (f : Fault) (n : ℕ) (ys : List Link) (k : ℕ) → late_verdict c (fault_fixes f) n ys k ≡ fault_fixes f
 unfolding late_verdict
-late_fault c f n ys k = pass _ _ _ (fault_code f)
+late_fault c f n ys k = cond-false _ _ _ (fault_code f)
 
 module _ (c : Copied) (early : Verdict) (n : ℕ) (none : early.code ≡ 0) (ys : List Link) (k : ℕ) where
   pub late_plain : k ≡ 0 → late_verdict c early n ys k ≡ verdict_of (plain_rows c n)
@@ -228,12 +228,12 @@ module _ (m : List ℕ) (c : Copied) (d : Drive) where
     of_nop h =
         let read = to_read_none c (early_code c d) n (nop_plain (λ r. r.gives) c d n (links_in m c) z h).0 in
         late_plain c (verdict_of (early_rows c d)) n (early_is c d ∙ z) list (k m c d) read
-        ∙ fixed_by (plain_rows c n) (λ column. stop _ _ _ h ∙ sym (nop_plain column c d n (links_in m c) z h).1)
+        ∙ fixed_by (plain_rows c n) (λ column. cond-true _ _ _ h ∙ sym (nop_plain column c d n (links_in m c) z h).1)
 
     of_transfer : (g o : Bool) → eqb (command_in c.byte0) nop ≡ false → gathers c ≡ g → list_outside c n ≡ o → worked_out ≡ rule
     unfolding links_in by_data
     of_transfer false o h g e =
-        let xs-none : links_in m c ≡ [] = pass _ _ _ g in
+        let xs-none : links_in m c ≡ [] = cond-false _ _ _ g in
         late_plain c (verdict_of (early_rows c d)) n (early_is c d ∙ z) list (k m c d) (to_read_none c (early_code c d) n g)
         ∙ fixed_by (plain_rows c n) (λ column. plain_rows_lem column c n h g ∙ ap (λ (xs : List Link). first_in column (data_rows c n xs) 0) (sym xs-none) ∙ sym (data_decides column c d n (links_in m c) z h))
     of_transfer true true h g o =
@@ -242,7 +242,7 @@ module _ (m : List ℕ) (c : Copied) (d : Drive) where
     of_transfer true false h g o =
         let all = to_read_all c (early_code c d) n z list g o in
         let many = some_links c in
-        let same : links_in m c ≡ list = stop _ _ _ g ∙ ap (links_at m c.address) (sym all) in
+        let same : links_in m c ≡ list = cond-true _ _ _ g ∙ ap (links_at m c.address) (sym all) in
         late_listed c (verdict_of (early_rows c d)) n (early_is c d ∙ z) list (k m c d) (omega arith)
         ∙ list_verdict c.count n list
         ∙ fixed_by (list_rows c.count n list) (λ column. listed_rows column c n h list g o ∙ ap (λ (xs : List Link). first_in column (data_rows c n xs) 0) (sym same) ∙ sym (data_decides column c d n (links_in m c) z h))
@@ -252,7 +252,7 @@ module _ (m : List ℕ) (c : Copied) (d : Drive) where
   verdict_is = go (eqb (early_code c d) 0) (eqb (command_in c.byte0) nop) refl refl
     where
       go : (e p : Bool) → eqb (early_code c d) 0 ≡ e → eqb (command_in c.byte0) nop ≡ p → worked_out ≡ rule
-      go false p e h = pass _ _ _ e ∙ fixed_by (early_rows c d) (λ column. early_decides column c d n (links_in m c) (eqb-false (early_code c d) 0 e))
+      go false p e h = cond-false _ _ _ e ∙ fixed_by (early_rows c d) (λ column. early_decides column c d n (links_in m c) (eqb-false (early_code c d) 0 e))
       go true true e h = of_nop (eqb-true (early_code c d) 0 e) h
       go true false e h = of_transfer (eqb-true (early_code c d) 0 e) (gathers c) (list_outside c n) h refl refl
 

@@ -8,6 +8,7 @@ use mathlib.Core.Bool.{Bool, true, false, not}
 use mathlib.Core.List.{List, [], ◌∷◌, ◌++◌, map, map-append}
 use lib.ListN.{length, take, drop, set, length-set, length-map, take-append-drop}
 use lib.Seq.{take-suc-set, drop-set-lt, drop-drop, length-take-le}
+use Rattle.std.proofs.lemmas.Bool.{cond-false, cond-true}
 use Rattle.meaning.specs.declared.Copied.{Copied}
 use Rattle.meaning.specs.Drives.{Drives}
 use Rattle.meaning.specs.declared.Record.{Record}
@@ -15,7 +16,6 @@ use Rattle.meaning.specs.Each.{some_of}
 use Rattle.meaning.specs.Fields.{all_in}
 use Rattle.meaning.specs.Code.{copied_at}
 use Rattle.meaning.specs.Walk.{refused, accepted, record_of, goes_on, shares, follow}
-use Rattle.meaning.proofs.Rows.{pass, stop}
 use Rattle.meaning.proofs.Tests.{some_map}
 use Rattle.chain.specs.Found.{Finding, no_addresses, found_of}
 use Rattle.chain.specs.Records.{record_at}
@@ -55,7 +55,7 @@ module _ (m : List ℕ) (start : ℕ) (addresses : List ℕ) (n at : ℕ) (w : W
 
   pub not_in_memory : n < 32 → all_in m at ≡ false → follow 32 m d [] start ≡ refused 3
   unfolding follow
-  not_in_memory h e = one_more h ∙ stop _ _ _ (ap not e)
+  not_in_memory h e = one_more h ∙ cond-true _ _ _ (ap not e)
 
   shared : (addresses-share : Bool) → some_of (λ (a : ℕ). shares a at) (take n addresses) ≡ addresses-share
       → some_of (λ (r : Record). shares r.iopb at) commands ≡ addresses-share
@@ -63,7 +63,7 @@ module _ (m : List ℕ) (start : ℕ) (addresses : List ℕ) (n at : ℕ) (w : W
 
   pub shares_a_byte : n < 32 → all_in m at ≡ true → some_of (λ (a : ℕ). shares a at) (take n addresses) ≡ true → follow 32 m d [] start ≡ refused 4
   unfolding follow
-  shares_a_byte h i e = one_more h ∙ pass _ _ _ (ap not i) ∙ stop _ _ _ (shared true e)
+  shares_a_byte h i e = one_more h ∙ cond-false _ _ _ (ap not i) ∙ cond-true _ _ _ (shared true e)
 
   -- a turn has noted the address, and neither 3 nor 4 was given
   module _ (h : n < 32) (i : all_in m at ≡ true) (e : some_of (λ (a : ℕ). shares a at) (take n addresses) ≡ false) where
@@ -78,12 +78,12 @@ module _ (m : List ℕ) (start : ℕ) (addresses : List ℕ) (n at : ℕ) (w : W
 
     chain_ends : goes_on (copied_at m at) ≡ false → follow 32 m d [] start ≡ accepted (map (record_at m d) (take (n + 1) noted))
     unfolding follow
-    chain_ends g = one_more h ∙ pass _ _ _ (ap not i) ∙ pass _ _ _ (shared false e) ∙ pass _ _ _ g ∙ ap accepted (sym with_record)
+    chain_ends g = one_more h ∙ cond-false _ _ _ (ap not i) ∙ cond-false _ _ _ (shared false e) ∙ cond-false _ _ _ g ∙ ap accepted (sym with_record)
 
     chain_goes_on : goes_on (copied_at m at) ≡ true → follow 32 m d [] start ≡ follow (32 - (n + 1)) m d (map (record_at m d) (take (n + 1) noted)) (copied_at m at).next
     unfolding follow
     chain_goes_on g =
-        one_more h ∙ pass _ _ _ (ap not i) ∙ pass _ _ _ (shared false e) ∙ stop _ _ _ g
+        one_more h ∙ cond-false _ _ _ (ap not i) ∙ cond-false _ _ _ (shared false e) ∙ cond-true _ _ _ g
         ∙ ap (λ (rs : List Record). follow (32 - (n + 1)) m d rs (copied_at m at).next) (sym with_record)
 
     -- what is found where the chain ends with this IOPB

@@ -10,6 +10,7 @@ use lib.Dec.{ltb}
 use lib.Seq.{take-append_seam}
 use borrow.Author.Tests.{lt-ltb, le-ltb}
 use Rattle.std.specs.Prelude.{Ok, Err}
+use Rattle.std.proofs.lemmas.Bool.{or_right, cond-false, cond-true}
 use Rattle.meaning.specs.declared.refusals.Refusal.{Refusal}
 use Rattle.meaning.specs.Drives.{Drives}
 use Rattle.meaning.specs.declared.Record.{Record}
@@ -20,7 +21,6 @@ use Rattle.meaning.specs.State.{most_commands, state_of}
 use Rattle.meaning.specs.Sizes.{store_wrong, sizes_wrong}
 use Rattle.meaning.specs.Code.{copied_at, odd}
 use Rattle.meaning.specs.Walk.{Chain, refused, accepted, record_of, goes_on, shares, follow, chain_at, answered, filled, walk_reply, walk_leaves, WalkGives}
-use Rattle.meaning.proofs.Rows.{or_later, pass, stop}
 use Rattle.meaning.proofs.Means.{Means, holds, fails, means_lt}
 use Rattle.meaning.proofs.Walks.{chain_most}
 use Rattle.chain.specs.declared.walk.Found.{Found}
@@ -36,7 +36,7 @@ module _ (d : Drives) (start records : ℕ) (m : List ℕ) (is : List (List ℕ)
 
   pub for_short : records < most_commands → comes_to ≡ refused 1
   unfolding chain_for
-  for_short h = stop _ _ _ (or_later (store_wrong d (lent m is)) (ltb records most_commands) (lt-ltb records most_commands h))
+  for_short h = cond-true _ _ _ (or_right (store_wrong d (lent m is)) (ltb records most_commands) (lt-ltb records most_commands h))
 
   module _ (long : most_commands ≤ records) (right : store_wrong d (lent m is) ≡ false) where
     past_1 : (store_wrong d (lent m is) || ltb records most_commands) ≡ false
@@ -44,7 +44,7 @@ module _ (d : Drives) (start records : ℕ) (m : List ℕ) (is : List (List ℕ)
 
     pub for_chain : odd start ≡ false → comes_to ≡ follow 32 m d [] start
     unfolding chain_for
-    for_chain e = pass _ _ _ past_1 ∙ pass _ _ _ e
+    for_chain e = cond-false _ _ _ past_1 ∙ cond-false _ _ _ e
 
 -- ---- the records of a chain
 

@@ -149,7 +149,7 @@ pub fn record_at(memory: &[u8], l: LentDrives, at: u32) -> Record
 
 // The same with no list, which is the record itself where SGM is clear. The list is made before any test, so that the compiler sees one
 // list of zeros on every way, and lays it where the record goes.
-// stays: of one function for both the compiler made a local record that it copied, and a walk took three times as long.
+// stays: of one function for both the compiler makes a local record and copies it, and a walk without lists takes 1.6 times as long.
 pub fn plain_record_at(memory: &[u8], l: LentDrives, at: u32) -> Record
     ensures { result ≡ plain_record_at memory.now (drives_of l) at }
 {

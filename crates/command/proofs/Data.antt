@@ -4,11 +4,12 @@ use Prim.Native.Nat.{ℕ, ◌+◌, ◌*◌, ◌<◌, max}
 use native.Mathlib.Decide.{dec_lt}
 use native.Mathlib.Nat.{zero-add}
 use native.Mathlib.Omega.{arith}
-use mathlib.Core.Bool.{Bool, true, false, not, ◌&&◌, ◌||◌, or_assoc, or-true}
+use mathlib.Core.Bool.{Bool, true, false, not, ◌&&◌, ◌||◌, or_assoc, or-true, or-false}
 use mathlib.Core.List.{List, [], ◌∷◌}
 use lib.Dec.{ltb, leb, eqb}
 use borrow.Author.Tests.{lt-ltb, le-ltb, eq-eqb}
 use lib.ListN.{length}
+use Rattle.std.proofs.lemmas.Bool.{or_left, cond-true}
 use Rattle.meaning.specs.declared.Drive.{Drive}
 use Rattle.meaning.specs.Drives.{Drives}
 use Rattle.meaning.specs.declared.Record.{Record}
@@ -26,8 +27,7 @@ use Rattle.meaning.specs.Touch.{data_bytes}
 use Rattle.meaning.specs.Pick.{bad_transfer, bad_record}
 use Rattle.meaning.proofs.Means.{Means, holds, fails, same_test, means_above, means_lt}
 use Rattle.meaning.proofs.Conditions.{right_store}
-use Rattle.meaning.proofs.Rows.{or_first, or_second, stop}
-use Rattle.meaning.proofs.Tests.{or_no}
+use Rattle.meaning.proofs.Rows.{or_second}
 use Rattle.units.specs.declared.rooms.Room.{Room}
 use Rattle.units.specs.declared.rooms.Rooms.{Rooms}
 use Rattle.units.specs.Rooms.{no_room, room_in, rooms_of, room_of}
@@ -43,7 +43,7 @@ use Rattle.command.specs.Look.{judged_as, looked_as, may_block}
 past_either : (n a b : ℕ) → ltb n (max a b) ≡ (ltb n a || ltb n b)
 past_either n a b =
     elim (dec_lt n a) [
-      | yes h ↦ lt-ltb n (max a b) (omega arith) ∙ sym (or_first _ _ (lt-ltb n a h))
+      | yes h ↦ lt-ltb n (max a b) (omega arith) ∙ sym (or_left _ _ (lt-ltb n a h))
       | no h ↦
           elim (dec_lt n b) [
             | yes g ↦ lt-ltb n (max a b) (omega arith) ∙ sym (or_second _ _ (le-ltb n a (omega arith)) ∙ lt-ltb n b g)
@@ -60,7 +60,7 @@ nearer_end n x h = same_test (means_lt n (nearer x.from + x.many)) (as_far (mean
     as_far (fails g) = fails (λ e. g (omega arith))
 
 outside_from : (n : ℕ) → n < far → (h : Hull) (xs : List Range) → ltb n (hull_from h xs).high ≡ (ltb n h.high || some_of (outside n) xs)
-outside_from n f h [] = sym (or_no (ltb n h.high))
+outside_from n f h [] = sym (or-false (ltb n h.high))
 outside_from n f h (x ∷ xs) =
     outside_from n f (hull_with h x) xs
     ∙ ap (λ (b : Bool). b || some_of (outside n) xs) (past_either n h.high (nearer x.from + x.many) ∙ ap (λ (b : Bool). ltb n h.high || b) (nearer_end n x f))
@@ -74,7 +74,7 @@ by_hull : (n : ℕ) → n < far → (r : Record) → transfers r ≡ true
     → bad_data n r ≡ (ltb most_links r.ranges || (some_of (outside n) (data_bytes r) || not (eqb (bytes_in (data_bytes r)) (sector_bytes * r.count))))
 unfolding bad_data
 by_hull n f r moves =
-    let moved : data_hull r ≡ hull_of (data_bytes r) = ap hull_of (stop (transfers r) (data_bytes r) [] moves) in
+    let moved : data_hull r ≡ hull_of (data_bytes r) = ap hull_of (cond-true (transfers r) (data_bytes r) [] moves) in
     let high = ap (λ (h : Hull). ltb n h.high) moved ∙ outside_from n f (hull_of []) (data_bytes r) ∙ or_second _ _ (le-ltb n 0 (omega arith)) in
     let bytes = ap (λ (h : Hull). h.bytes) moved ∙ bytes_from (hull_of []) (data_bytes r) ∙ zero-add (bytes_in (data_bytes r)) in
     ap₂ (λ (a : Bool) (k : ℕ). ltb most_links r.ranges || (a || not (eqb k (sector_bytes * r.count)))) high bytes
@@ -99,7 +99,7 @@ no_room_lem n r = go (means_lt 0 r.count)
 
     go : {b : Bool} → Means (0 < r.count) b → bad_move n no_room r ≡ true
     go (holds h) = ap past (lt-ltb 0 (r.sector + r.count) (omega (arith, h))) ∙ ap (λ (b : Bool). eqb r.count 0 || b) (or-true (bad_data n r)) ∙ or-true (eqb r.count 0)
-    go (fails h) = or_first _ _ (eq-eqb r.count 0 (omega (arith, h)))
+    go (fails h) = or_left _ _ (eq-eqb r.count 0 (omega (arith, h)))
 
 -- the room on a drive tells what the drive itself does
 by_room : (n : ℕ) (d : Drive) (r : Record)
@@ -110,7 +110,7 @@ by_room n d r = go d.present refl
     go : (b : Bool) → d.present ≡ b
         → (not d.present || (eqb r.count 0 || (bad_data n r || ((drive_end d r.sector r.count).past || writes r && d.protected)))) ≡ bad_move n (room_in d) r
     go true e = or_second _ _ (ap not e) ∙ ap (λ (m : Room). bad_move n m r) (sym (room_where d true e))
-    go false e = or_first _ _ (ap not e) ∙ sym (ap (λ (m : Room). bad_move n m r) (room_where d false e) ∙ no_room_lem n r)
+    go false e = or_left _ _ (ap not e) ∙ sym (ap (λ (m : Room). bad_move n m r) (room_where d false e) ∙ no_room_lem n r)
 
 not-leb : (a n : ℕ) → not (leb a n) ≡ ltb n a
 not-leb a n = same_test (means_above a n) (means_lt n a)

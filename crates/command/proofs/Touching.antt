@@ -5,10 +5,12 @@ use mathlib.Core.Path.{◌≡◌, refl, sym, ap, ap₂, ◌∙◌}
 use Prim.Native.Nat.{ℕ, ◌+◌, ◌≤◌, max, min}
 use native.Mathlib.Nat.{max_comm, min_comm, le_refl, le-max_right, min-le_right}
 use native.Mathlib.Omega.{arith}
-use mathlib.Core.Bool.{Bool, true, false, not, ◌&&◌, ◌||◌, cond, true≢false}
+use mathlib.Core.Bool.{Bool, true, false, not, ◌&&◌, ◌||◌, cond, true≢false, and-false, or-false}
 use mathlib.Core.List.{List, [], ◌∷◌, ◌++◌}
 use lib.Dec.{ltb}
 use borrow.Author.Tests.{ltb-false, le-ltb}
+use Rattle.std.proofs.lemmas.Bool.{and_parts, or_parts, or_from}
+use Rattle.std.proofs.lemmas.List.Folds.{list_any-append}
 use Rattle.meaning.specs.declared.Record.{Record}
 use Rattle.meaning.specs.Each.{some_of}
 use Rattle.meaning.specs.Store.{disk, same}
@@ -16,8 +18,8 @@ use Rattle.meaning.specs.Ranges.{Range, bytes, sectors_of, crosses, overlap, mee
 use Rattle.meaning.specs.Command.{reads, writes, transfers}
 use Rattle.meaning.specs.Touch.{Touched, data_bytes, status_bytes, sectors, touched_by, touched, disturbs, conflict}
 use Rattle.meaning.proofs.All.{All, all_both}
-use Rattle.meaning.proofs.Rows.{and-true, or_second, or-false, or_none}
-use Rattle.meaning.proofs.Tests.{and_no, or_no, some_append, some_same, some_or, some_no}
+use Rattle.meaning.proofs.Rows.{or_second}
+use Rattle.meaning.proofs.Tests.{some_same, some_or, some_no}
 use Rattle.meaning.proofs.Means.{is_false, means_and}
 use Rattle.meaning.proofs.Conditions.{means_reads, means_writes, not_both}
 use Rattle.meaning.proofs.Ranges.{overlap_swap, meet_swap}
@@ -43,9 +45,9 @@ module _ (a n : ℕ) (s : Record) where
   status_met = crosses a n s.iopb 4
 
   bytes_by : (rd wr : Bool) → meets (bytes a n) (touched_by rd wr s) ≡ cond (rd || wr) (data_met || status_met) status_met
-  bytes_by true wr = some_append (overlap (bytes a n)) (data_bytes s) (status_bytes s ∷ []) ∙ ap (λ (b : Bool). data_met || b) (or_no status_met)
-  bytes_by false true = some_append (overlap (bytes a n)) (data_bytes s) (sectors s ∷ status_bytes s ∷ []) ∙ ap (λ (b : Bool). data_met || b) (or_no status_met)
-  bytes_by false false = or_no status_met
+  bytes_by true wr = list_any-append (overlap (bytes a n)) (data_bytes s) (status_bytes s ∷ []) ∙ ap (λ (b : Bool). data_met || b) (or-false status_met)
+  bytes_by false true = list_any-append (overlap (bytes a n)) (data_bytes s) (sectors s ∷ status_bytes s ∷ []) ∙ ap (λ (b : Bool). data_met || b) (or-false status_met)
+  bytes_by false false = or-false status_met
 
   bytes_of : meets (bytes a n) (touched s) ≡ cond (transfers s) (data_met || status_met) status_met
   unfolding touched
@@ -61,10 +63,10 @@ module _ (u a n : ℕ) (s : Record) where
 
   sectors_by : (rd wr : Bool) → meets (sectors_of u a n) (touched_by rd wr s) ≡ cond (rd || wr) sectors_met false
   sectors_by true wr =
-      ap (λ (b : Bool). sectors_met || b) (some_append (overlap (sectors_of u a n)) (data_bytes s) (status_bytes s ∷ []) ∙ or_none _ _ no_data refl)
-      ∙ or_no sectors_met
+      ap (λ (b : Bool). sectors_met || b) (list_any-append (overlap (sectors_of u a n)) (data_bytes s) (status_bytes s ∷ []) ∙ or_from _ _ no_data refl)
+      ∙ or-false sectors_met
   sectors_by false true =
-      some_append (overlap (sectors_of u a n)) (data_bytes s) (sectors s ∷ status_bytes s ∷ []) ∙ or_second _ _ no_data ∙ or_no sectors_met
+      list_any-append (overlap (sectors_of u a n)) (data_bytes s) (sectors s ∷ status_bytes s ∷ []) ∙ or_second _ _ no_data ∙ or-false sectors_met
   sectors_by false false = refl
 
   sectors_of_lem : meets (sectors_of u a n) (touched s) ≡ cond (transfers s) sectors_met false
@@ -114,9 +116,9 @@ disturbs_by : (r : Record) (y : Touched) (rd wr : Bool) → disturbs (touched_by
     ≡ by_kind rd wr (some_of (λ x. meets x y) (data_bytes r)) (meets (bytes r.iopb 4) y) (meets (sectors r) y)
 unfolding disturbs
 disturbs_by r y true wr =
-    some_append (λ x. meets x y) (data_bytes r) (status_bytes r ∷ []) ∙ ap (λ (b : Bool). some_of (λ x. meets x y) (data_bytes r) || b) (or_no (meets (bytes r.iopb 4) y))
-disturbs_by r y false true = ap (λ (b : Bool). meets (sectors r) y || b) (or_no (meets (bytes r.iopb 4) y))
-disturbs_by r y false false = or_no (meets (bytes r.iopb 4) y)
+    list_any-append (λ x. meets x y) (data_bytes r) (status_bytes r ∷ []) ∙ ap (λ (b : Bool). some_of (λ x. meets x y) (data_bytes r) || b) (or-false (meets (bytes r.iopb 4) y))
+disturbs_by r y false true = ap (λ (b : Bool). meets (sectors r) y || b) (or-false (meets (bytes r.iopb 4) y))
+disturbs_by r y false false = or-false (meets (bytes r.iopb 4) y)
 
 -- the five pairs, and the kinds of both
 abbrev one_way : Bool → Bool → Bool → Bool → Bool → Bool → Bool → Bool → Bool
@@ -136,7 +138,7 @@ unfolding crosses
 crosses_none a n b = le-ltb (max a b) (min (a + n) (b + 0)) (omega (arith, le-max_right a b, min-le_right (a + n) (b + 0)))
 
 sectors_none : (u a n v b : ℕ) → overlap (sectors_of u a n) (sectors_of v b 0) ≡ false
-sectors_none u a n v b = ap (λ (x : Bool). same (disk u) (disk v) && x) (crosses_none a n b) ∙ and_no (same (disk u) (disk v))
+sectors_none u a n v b = ap (λ (x : Bool). same (disk u) (disk v) && x) (crosses_none a n b) ∙ and-false (same (disk u) (disk v))
 
 if_moved : {A : Type 0} (f : A → Bool) (t : Bool) (c z : A) → f z ≡ false → f (cond t c z) ≡ (t && f c)
 if_moved f true c z e = refl
@@ -176,8 +178,8 @@ abbrev both_values : (Bool → Bool) → Bool
 both_values f = f true && f false
 
 any_value : (f : Bool → Bool) → both_values f ≡ true → (b : Bool) → f b ≡ true
-any_value f e true = (and-true (f true) (f false) e).0
-any_value f e false = (and-true (f true) (f false) e).1
+any_value f e true = (and_parts (f true) (f false) e).0
+any_value f e false = (and_parts (f true) (f false) e).1
 
 -- no command both reads and writes
 abbrev agree : Bool → Bool → Bool → Bool → Bool → Bool → Bool → Bool → Bool → Bool
@@ -296,14 +298,14 @@ module _ (r s : Record) (apart : footprints_meet (footprint_of r) (footprint_of 
       let f = footprint_of r in
       let g = footprint_of s in
       let last = data_meets f g || sectors_meet f g in
-      let a = or-false (status_both r s) (status_meets f g || (status_meets g f || last)) apart in
-      let b = or-false (status_meets f g) (status_meets g f || last) a.1 in
-      let c = or-false (status_meets g f) last b.1 in
-      let e = or-false (data_meets f g) (sectors_meet f g) c.1 in
+      let a = or_parts (status_both r s) (status_meets f g || (status_meets g f || last)) apart in
+      let b = or_parts (status_meets f g) (status_meets g f || last) a.1 in
+      let c = or_parts (status_meets g f) last b.1 in
+      let e = or_parts (data_meets f g) (sectors_meet f g) c.1 in
       let sd = apart_some r.iopb 4 (moved_data s) b.0 (moved_memory s) in
       let ds = apart_some s.iopb 4 (moved_data r) c.0 (moved_memory r) in
       let dd : data_conflicts r s ≡ false = under (reads r || reads s) (hulls_meet f.hull g.hull) (meet (moved_data r) (moved_data s)) (λ h. apart_both (moved_data r) (moved_data s) h (moved_memory r) (moved_memory s)) e.0 in
-      conflict_is r s ∙ or_none _ _ a.0 (or_none _ _ sd (or_none _ _ ds (or_none _ _ dd e.1)))
+      conflict_is r s ∙ or_from _ _ a.0 (or_from _ _ sd (or_from _ _ ds (or_from _ _ dd e.1)))
     where
       under : (a b c : Bool) → (b ≡ false → c ≡ false) → (a && b) ≡ false → (a && c) ≡ false
       under true b c f h = f h

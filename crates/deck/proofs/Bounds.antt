@@ -9,6 +9,7 @@ use lib.ListN.{length, get_or, take, drop}
 use lib.Seq.{take-append_seam, take-length}
 use lib.Dec.{lit≤, ltb}
 use borrow.Author.Tests.{le-ltb}
+use Rattle.std.proofs.lemmas.Bool.{or_parts}
 use Rattle.meaning.specs.declared.Record.{Record}
 use Rattle.meaning.specs.Each.{some_of, sum_of}
 use Rattle.meaning.specs.Sectors.{per_cylinder, sector_count}
@@ -20,7 +21,6 @@ use Rattle.meaning.specs.Pick.{bad_record, spoiled}
 use Rattle.meaning.specs.Run.{chain_steps, written}
 use Rattle.meaning.specs.Deck.{is_deck, bench_drive, bench_drives}
 use Rattle.meaning.specs.Bench.{ran, run_chain, bench_state, outcome_of}
-use Rattle.meaning.proofs.Rows.{or-false}
 use Rattle.meaning.proofs.Conditions.{good}
 use Rattle.meaning.proofs.Walks.{chain_most, chain_is_sound}
 use Rattle.meaning.proofs.Counts.{smaller}
@@ -57,7 +57,7 @@ module _ (d : Drives) (s : State) (few : (u : ℕ) → sector_count (d.on u) ≤
   all_steps : (rs : List Record) → some_of (bad_record d s.store) rs ≡ false → sum_of steps_of rs ≤ 32 * length rs
   all_steps [] e = omega arith
   all_steps (r ∷ rs) e =
-      let parts = or-false (bad_record d s.store r) (some_of (bad_record d s.store) rs) e in
+      let parts = or_parts (bad_record d s.store r) (some_of (bad_record d s.store) rs) e in
       omega (arith, command_steps r parts.0, all_steps rs parts.1)
 
   -- none of the chain's commands is bad
@@ -67,7 +67,7 @@ module _ (d : Drives) (s : State) (few : (u : ℕ) → sector_count (d.on u) ≤
       let t = filled (accepted rs) s.table in
       let sound = (chain_is_sound d 0 s rs e).passed.sound in
       ap (some_of (bad_record d s.store)) (sym (take-append_seam rs (drop (length rs) s.table)))
-      ∙ (or-false (ltb most_commands (length rs)) (some_of (bad_record d s.store) (take (length rs) t)) sound).1
+      ∙ (or_parts (ltb most_commands (length rs)) (some_of (bad_record d s.store) (take (length rs) t)) sound).1
 
   chain_steps_lem : (rs : List Record) → chain_at d 0 s ≡ accepted rs → chain_steps rs (length rs) ≤ 1_024
   unfolding chain_steps

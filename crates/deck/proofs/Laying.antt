@@ -10,10 +10,11 @@ use lib.ListN.{length, take, drop, replicate, length-append, length-replicate, l
 use lib.Seq.{drop-drop, take_at, drop_at, length-take-le}
 use lib.Dec.{leb, eqb}
 use borrow.Author.Tests.{leb-true}
+use Rattle.std.proofs.lemmas.Bool.{and_left, and_parts}
 use Rattle.meaning.specs.Each.{every_of, up_to}
 use Rattle.meaning.specs.Sectors.{sector_bytes}
 use Rattle.meaning.specs.Deck.{record_bytes, most_records, record_count, fillers_right, is_deck, lay_record, bench_memory, memory_bytes, sectors_to, bench_image}
-use Rattle.meaning.proofs.Rows.{and_first, and_second, and-true}
+use Rattle.meaning.proofs.Rows.{and_second}
 use Rattle.deck.proofs.Counting.{fold_more}
 
 -- ---- a deck
@@ -25,7 +26,7 @@ module _ (b : List ℕ) where
 
   pub no_records : whole ≡ false → is_deck b ≡ false
   unfolding is_deck
-  no_records e = and_first whole _ e
+  no_records e = and_left whole _ e
 
   pub by_fillers : whole ≡ true → is_deck b ≡ every_of (fillers_right b) (up_to (record_count b))
   unfolding is_deck
@@ -33,7 +34,7 @@ module _ (b : List ℕ) where
 
   pub deck_few : is_deck b ≡ true → record_count b ≤ most_records
   unfolding is_deck
-  deck_few e = leb-true _ _ (and-true (not (eqb (length b) 0) && eqb (length b % record_bytes) 0) _ (and-true whole _ e).0).1
+  deck_few e = leb-true _ _ (and_parts (not (eqb (length b) 0) && eqb (length b % record_bytes) 0) _ (and_parts whole _ e).0).1
 
 -- ---- memory
 

@@ -11,16 +11,16 @@ use lib.ListN.{length, get_or, take, length-append}
 use lib.Seq.{take-suc, length-take-le}
 use lib.Dec.{ltb}
 use borrow.Author.Tests.{lt-ltb, le-ltb, ltb-true, ltb-false}
+use Rattle.std.proofs.lemmas.Bool.{cond-false, cond-true}
 use Rattle.meaning.specs.Lines.{digit, digits, decimal, hex, space, newline, command_lines}
-use Rattle.meaning.proofs.Rows.{pass, stop}
 
 digits_one : (k n : ℕ) → n < 10 → digits (suc k) n ≡ digit n ∷ []
 unfolding digits
-digits_one k n h = stop _ _ _ (lt-ltb _ _ h)
+digits_one k n h = cond-true _ _ _ (lt-ltb _ _ h)
 
 digits_more : (k n : ℕ) → 10 ≤ n → digits (suc k) n ≡ digits k (n / 10) ++ digit (n % 10) ∷ []
 unfolding digits
-digits_more k n h = pass _ _ _ (le-ltb _ _ h)
+digits_more k n h = cond-false _ _ _ (le-ltb _ _ h)
 
 tenth : (k n : ℕ) → n < 10 ^ suc (suc k) → n / 10 < 10 ^ suc k
 tenth k n h = (div-lt_iff_lt-mul {k = 10} (omega arith)).1 (subst (λ (x : ℕ). n < x) (pow-suc 10 (suc k)) h)

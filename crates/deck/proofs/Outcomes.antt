@@ -7,6 +7,7 @@ use mathlib.Core.List.{List, [], ◌∷◌, ◌++◌, append_assoc}
 use lib.ListN.{length, take, drop, replicate, length-take}
 use lib.Dec.{lit≤}
 use borrow.Author.Tests.{le-leb, lt-leb}
+use Rattle.std.proofs.lemmas.Bool.{cond-false, cond-true}
 use Rattle.meaning.specs.declared.LentDrives.{LentDrives}
 use Rattle.meaning.specs.declared.Record.{Record}
 use Rattle.meaning.specs.Store.{lent, images}
@@ -15,7 +16,6 @@ use Rattle.meaning.specs.Deck.{is_deck, bench_drives, bench_memory, bench_image}
 use Rattle.meaning.specs.Bench.{no_deck, no_chain, ran, outcome_of}
 use Rattle.meaning.specs.Bench as bench
 use Rattle.meaning.specs.Lines.{space, newline, deck_word, chain_word, steps_word, decimal, command_lines, lines_of, printed}
-use Rattle.meaning.proofs.Rows.{pass, stop}
 use Rattle.std.specs.Prelude.{Ok, Err}
 use Rattle.deck.specs.declared.RanChain.{RanChain}
 use Rattle.deck.specs.declared.Refused.{Refused}
@@ -65,11 +65,11 @@ module _ (o : bench.Outcome) where
 module _ (b : List ℕ) where
   pub no_deck_lem : is_deck b ≡ false → outcome_of b ≡ no_deck
   unfolding outcome_of
-  no_deck_lem e = pass (is_deck b) _ _ e
+  no_deck_lem e = cond-false (is_deck b) _ _ e
 
   pub deck_outcome : is_deck b ≡ true → outcome_of b ≡ chain_outcome (drives_of (bench_drives b)) (lent (bench_memory b) (images bench_image [] [] []))
   unfolding outcome_of
-  deck_outcome e = stop (is_deck b) _ _ e
+  deck_outcome e = cond-true (is_deck b) _ _ e
 
   pub reports_deck : (m i : List ℕ) (l : LentDrives) (r : Report) → is_deck b ≡ true → m ≡ bench_memory b → i ≡ bench_image → l ≡ bench_drives b
       → Reports (chain_outcome (drives_of l) (lent m (images i [] [] []))) r → Reports (outcome_of b) r
@@ -81,7 +81,7 @@ module _ (b : List ℕ) where
 
 pub too_short : (b l : List ℕ) → length l < most_bytes → PrintGives b l 0 l
 unfolding PrintGives
-too_short b l h = subst (λ (x : List ℕ). Put l 0 x 0 l) (sym (pass _ _ _ (lt-leb _ _ h))) (record { past = refl; front = refl; rest = refl })
+too_short b l h = subst (λ (x : List ℕ). Put l 0 x 0 l) (sym (cond-false _ _ _ (lt-leb _ _ h))) (record { past = refl; front = refl; rest = refl })
 
 lines_printed : (b : List ℕ) → lines_of (outcome_of b) ≡ printed b
 unfolding printed
@@ -91,7 +91,7 @@ pub prints : (b l text : List ℕ) (x : Report) (r : ℕ) (l' : List ℕ) → mo
     → Put l 0 text r l' → PrintGives b l r l'
 unfolding PrintGives
 prints b l text x r l' h told is p =
-    subst (λ (y : List ℕ). Put l 0 y r l') (is ∙ ap lines_of told.means ∙ lines_printed b ∙ sym (stop _ (printed b) [] (le-leb _ _ h))) p
+    subst (λ (y : List ℕ). Put l 0 y r l') (is ∙ ap lines_of told.means ∙ lines_printed b ∙ sym (cond-true _ (printed b) [] (le-leb _ _ h))) p
 
 -- what a caller asks of the count before it reads so many bytes
 pub print_counts : (b l : List ℕ) (r : ℕ) (l' : List ℕ) → PrintGives b l r l' → (r ≤ length l') × (r ≡ length (take r l'))

@@ -8,6 +8,7 @@ use lib.ListN.{length, get_or, take, drop, set, replicate, length-map}
 use lib.Seq.{append_snoc, set_at, take-suc, take-append_seam, take-length, length-take-le}
 use lib.Dec.{eqb}
 use borrow.Author.Tests.{eq-eqb}
+use Rattle.std.proofs.lemmas.Bool.{cond-true}
 use Rattle.meaning.specs.declared.Record.{Record}
 use Rattle.meaning.specs.declared.Walked.{Walked}
 use Rattle.meaning.specs.declared.Ran as R
@@ -20,7 +21,6 @@ use Rattle.meaning.specs.Command.{steps_of}
 use Rattle.meaning.specs.Run.{chain_steps, run_number, Tally, written, as_written, ran_to, run_reply, RunGives}
 use Rattle.meaning.specs.Bench.{no_chain, ran, run_chain, no_records}
 use Rattle.meaning.specs.Bench as bench
-use Rattle.meaning.proofs.Rows.{stop}
 use Rattle.meaning.proofs.Walks.{refused_number}
 use Rattle.order.proofs.Accepted.{walk_is_sound}
 use Rattle.deck.specs.Meant.{codes_of, chain_outcome}
@@ -101,7 +101,7 @@ module _ (d : Drives) (s : Store) where
       unfolding RunGives run_reply ran_to as_written
       run_steps b r s' g =
           ap (λ (x : R.Ran). x.steps) g.0
-          ∙ ap (λ (x : Tally). x.steps) (stop (eqb (run_number d w.commands after) 0) _ _ (eq-eqb _ _ (walk_is_sound d 0 before w t walked taken).0))
+          ∙ ap (λ (x : Tally). x.steps) (cond-true (eqb (run_number d w.commands after) 0) _ _ (eq-eqb _ _ (walk_is_sound d 0 before w t walked taken).0))
 
       chain_told : chain_outcome d s ≡ told w t
       unfolding WalkGives walk_reply walk_leaves

@@ -1,8 +1,6 @@
 -- Tests joined by "and" and "or", of which the first half is known. The other laws of tests are the library's.
 use mathlib.Core.Path.{◌≡◌, refl}
 use mathlib.Core.Bool.{Bool, true, false, ◌&&◌, ◌||◌, true≢false, false≢true}
--- for the crates above, under the names that they cite
-pub use Rattle.std.proofs.lemmas.Bool.{cond-false as pass, cond-true as stop, and_parts as and-true, or_parts as or-false, or_left as or_first, or_right as or_later, or_from as or_none, and_left as and_first}
 
 -- the first half of an "and" holds: the second decides
 pub and_second : (a b : Bool) → a ≡ true → (a && b) ≡ b

@@ -7,9 +7,6 @@ use lib.ListN.{get_or, set, take}
 use Rattle.std.proofs.lemmas.Bool.{and_parts, or_from}
 use Rattle.meaning.specs.Each.{some_of, every_of, sum_of}
 use Rattle.meaning.proofs.All.{All}
--- for the crates above, under the names that they cite
-pub use mathlib.Core.Bool.{and-false as and_no, or-false as or_no}
-pub use Rattle.std.proofs.lemmas.List.Folds.{list_any-append as some_append}
 
 -- two tests that give the same of each element; and one test or the other
 pub some_same : {A : Type 0} (P : A → Type 0) (f g : A → Bool) → ((x : A) → P x → f x ≡ g x) → (xs : List A) → All P xs → some_of f xs ≡ some_of g xs

@@ -3,8 +3,9 @@ use mathlib.Core.Path.{sym, ap, ◌∙◌}
 use borrow.Author.Tests.{eq-eqb, ne_eqb}
 use Rattle.std.specs.Prelude.{◌≡◌, cond, eqb, leb}
 use Rattle.std.proofs.Common.{rules, tests}
+use Rattle.std.proofs.lemmas.Bool.{and_left}
 use Rattle.meaning.specs.Deck.{byte_in, fillers_right}
-use Rattle.meaning.proofs.Rows.{and_first, and_second}
+use Rattle.meaning.proofs.Rows.{and_second}
 use Rattle.deck.proofs.laid.fillers_right.Goals as goal
 
 pub returns-then-bytes-k-eq0 : goal.returns-then-bytes-k-eq0
@@ -16,4 +17,4 @@ returns-then-bytes-k-eq0 c =
 
 pub returns-else-bytes-k-eq0 : goal.returns-else-bytes-k-eq0
 unfolding fillers_right
-returns-else-bytes-k-eq0 c = let wrong = ne_eqb _ _ c.if-bytes-k-eq0.false in wrong ∙ sym (and_first _ _ wrong)
+returns-else-bytes-k-eq0 c = let wrong = ne_eqb _ _ c.if-bytes-k-eq0.false in wrong ∙ sym (and_left _ _ wrong)
