@@ -5,8 +5,8 @@ ghost use Rattle.meaning.specs.Store.{lent, images};
 ghost use Rattle.meaning.specs.Drives.{drives_of};
 ghost use Rattle.meaning.specs.Look.{look_number, looked_part};
 
-use crate::number_of;
 use meaning::lends::LentDisks;
+use meaning::refusals::number_of;
 use meaning::{LentDrives, Part};
 use units::look;
 

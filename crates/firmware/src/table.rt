@@ -9,10 +9,10 @@ ghost use Rattle.meaning.specs.Walk.{WalkGives};
 ghost use Rattle.meaning.specs.Pick.{PickGives};
 ghost use Rattle.meaning.specs.Run.{chain_steps, by_picks, as_written, RunGives};
 
-use crate::number_of;
 use board::{pick, run};
 use chain::walk;
 use meaning::lends::{LentDisks, LentStore};
+use meaning::refusals::number_of;
 use meaning::{LentDrives, Ran, Record, Walked};
 
 // The walk: records past the last command, and all of them on a refusal, are left alone (Walk 1 to 10, Record 7).

@@ -1,6 +1,6 @@
 // Why a call refuses: each reason has the number that the rules give it, by which C and the bench are told.
 ghost use Rattle.std.specs.Prelude.{◌≡◌};
-ghost use Rattle.meaning.specs.Refusals.{number_of};
+ghost use Rattle.meaning.specs.Refusals.{number_of, told};
 
 #[derive(Clone, Copy, Debug, PartialEq, Eq)]
 pub enum Refusal {
@@ -45,5 +45,15 @@ impl From<Refusal> for u8 {
             Refusal::NoSector => 10,
             Refusal::NoUnit => 11,
         }
+    }
+}
+
+// The number that an answer tells: 0 where nothing is refused.
+pub fn number_of(answer: Result<(), Refusal>) -> u8
+    ensures { result ≡ told answer }
+{
+    match answer {
+        Ok(()) => 0,
+        Err(refusal) => u8::from(refusal),
     }
 }

@@ -10,7 +10,7 @@ ghost use Rattle.meaning.specs.View.{made_number, made, view_of};
 ghost use Rattle.viewer.specs.Seen.{seen};
 
 use meaning::Iopb;
-use meaning::refusals::Refusal;
+use meaning::refusals::{Refusal, number_of};
 
 #[derive(Clone, Copy)]
 pub struct Viewer<'a> {
@@ -98,10 +98,7 @@ impl<'a> Viewer<'a> {
     pub fn number(self) -> u8
         ensures { result ≡ told self.entry.made }
     {
-        match self.made {
-            Ok(()) => 0,
-            Err(refusal) => u8::from(refusal),
-        }
+        number_of(self.made)
     }
 
     // ERRS.
