@@ -11,8 +11,6 @@ use mathlib.Core.List.{List, [], ◌∷◌}
 use lib.ListN.{length, take, drop}
 use lib.Dec.{ltb, eqb}
 use borrow.Author.Tests.{eqb-true, eqb-false, eq-eqb, ne_eqb}
-use Rattle.std.specs.Prelude.{Result, Ok, Err}
-use Rattle.std.specs.Result.{is_err}
 use Rattle.meaning.specs.declared.Copied.{Copied}
 use Rattle.meaning.specs.declared.Drive.{Drive}
 use Rattle.meaning.specs.declared.Link.{Link}
@@ -32,7 +30,7 @@ use Rattle.meaning.proofs.Links.{few_links, some_links, length_links, links_kept
 use Rattle.chain.specs.declared.code.Verdict.{Verdict}
 use Rattle.chain.specs.declared.code.Fault.{Fault}
 use Rattle.chain.specs.declared.code.Fault.TheVariants.{NextAlignment, Unimplemented, NotReady, CountZero, CylinderAbove, HeadAbove, SectorAbove, PastDrive, Protected, ListOutside, ListLength, ListAlignment, RangeOutside, PastMemory}
-use Rattle.chain.specs.Coding.{to_read, fixed_as, fault_fixes, verdict_by, verdict_of, early_rows, plain_rows, list_rows, list_code, late_verdict}
+use Rattle.chain.specs.Coding.{to_read, fixed_as, fault_fixes, verdict_of, early_rows, plain_rows, list_rows, list_code, late_verdict}
 use Rattle.meaning.specs.Drives.{Drives}
 use Rattle.chain.specs.Records.{record_at, plain_record_of, plain_record_at}
 
@@ -171,14 +169,6 @@ fault_code (PastMemory fitted) = refl
 pub late_fault : (c : Copied) (f : Fault) (n : ℕ) (ys : List Link) (k : ℕ) → late_verdict c (fault_fixes f) n ys k ≡ fault_fixes f
 unfolding late_verdict
 late_fault c f n ys k = pass _ _ _ (fault_code f)
-
-pub code_given : (r : Result Unit Fault) → is_err r ≡ true → eqb (verdict_by r).code 0 ≡ false
-code_given (Ok x) e = absurd (true≢false (sym e))
-code_given (Err f) e = fault_code f
-
-pub no_code : (r : Result Unit Fault) → is_err r ≡ false → eqb (verdict_by r).code 0 ≡ true
-no_code (Ok x) e = refl
-no_code (Err f) e = absurd (true≢false e)
 
 module _ (c : Copied) (early : Verdict) (n : ℕ) (none : early.code ≡ 0) (ys : List Link) (k : ℕ) where
   pub late_plain : k ≡ 0 → late_verdict c early n ys k ≡ verdict_of (plain_rows c n)

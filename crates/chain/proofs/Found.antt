@@ -20,7 +20,7 @@ use Rattle.meaning.specs.State.{most_commands, state_of}
 use Rattle.meaning.specs.Sizes.{store_wrong, sizes_wrong}
 use Rattle.meaning.specs.Code.{copied_at, odd}
 use Rattle.meaning.specs.Walk.{Chain, refused, accepted, record_of, goes_on, shares, follow, chain_at, answered, filled, walk_reply, walk_leaves, WalkGives}
-use Rattle.meaning.proofs.Rows.{or_first, or_later, pass, stop}
+use Rattle.meaning.proofs.Rows.{or_later, pass, stop}
 use Rattle.meaning.proofs.Means.{Means, holds, fails, means_lt}
 use Rattle.meaning.proofs.Walks.{chain_most}
 use Rattle.chain.specs.declared.walk.Found.{Found}
@@ -38,17 +38,9 @@ module _ (d : Drives) (start records : ℕ) (m : List ℕ) (is : List (List ℕ)
   unfolding chain_for
   for_short h = stop _ _ _ (or_later (store_wrong d (lent m is)) (ltb records most_commands) (lt-ltb records most_commands h))
 
-  pub for_wrong : store_wrong d (lent m is) ≡ true → comes_to ≡ refused 1
-  unfolding chain_for
-  for_wrong e = stop _ _ _ (or_first (store_wrong d (lent m is)) (ltb records most_commands) e)
-
   module _ (long : most_commands ≤ records) (right : store_wrong d (lent m is) ≡ false) where
     past_1 : (store_wrong d (lent m is) || ltb records most_commands) ≡ false
     past_1 = rw (right, le-ltb records most_commands long)
-
-    pub for_odd : odd start ≡ true → comes_to ≡ refused 2
-    unfolding chain_for
-    for_odd e = pass _ _ _ past_1 ∙ stop _ _ _ e
 
     pub for_chain : odd start ≡ false → comes_to ≡ follow 32 m d [] start
     unfolding chain_for

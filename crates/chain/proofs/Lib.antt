@@ -3,5 +3,4 @@ pub mod Found
 pub mod Over
 pub mod Past
 pub mod Alone
-pub mod Verdicts
 pub mod Coding

@@ -66,6 +66,7 @@ pub enum Fault {
 }
 
 // What the walk fixes of a command: its code, and how many sectors would have fitted.
+// stays: a record holds both as bytes, which C reads; 00 is the code of a command at no fault.
 #[derive(Clone, Copy)]
 pub struct Verdict {
     pub code: u8,
@@ -115,6 +116,7 @@ impl From<Result<(), Fault>> for Verdict {
 }
 
 // The fields of an IOPB that the walk keeps.
+#[tactic(auto, unfolding(meaning::specs::Code::copied_at))]
 fn fields_of(memory: &[u8], at: u32) -> Copied
     ensures { result ≡ copied_at memory.now at }
 {
@@ -178,7 +180,7 @@ fn unimplemented(c: Copied) -> bool
     ensures { result ≡ (ltb read (command_in c.byte0) || gathers c && eqb (command_in c.byte0) nop || not (eqb c.subfunction 0)) }
 {
     u8::from(Command::ReadData) < c.byte0 % 16
-        || has_list(c) && asks(c, Command::NoOperation)
+        || has_list(c) & asks(c, Command::NoOperation)
         || c.subfunction != 0
 }
 
@@ -196,11 +198,11 @@ fn sector_above(c: Copied, d: Drive) -> bool
     drive::above(drive::maximum_on(d, c.head), c.sector as u32)
 }
 
-// Write Data and the drive is protected.
+// Write Data and the drive is protected. Both are asked at once, since writes and reads go by turns in many chains: a branch on them is slow.
 fn forbidden(c: Copied, d: Drive) -> bool
     ensures { result ≡ (eqb (command_in c.byte0) write && d.protected) }
 {
-    asks(c, Command::WriteData) && d.protected
+    asks(c, Command::WriteData) & d.protected
 }
 
 // The test for the end of memory: of the 512 x count bytes from the data address on.
@@ -212,6 +214,7 @@ fn memory_end(c: Copied, memory: u64) -> End
 }
 
 // What is asked of a transfer, before its data is looked at. `first` is the number of its first sector.
+// stays: worked out once, it is handed on beside the two that it follows from; a struct of the three would be made here alone.
 #[tactic(auto, unfolding(crate::specs::Coding::verdict_of))]
 fn ask_transfer(c: Copied, d: Drive, first: u32) -> Result<(), Fault>
     requires { first ≡ first_sector d c }
@@ -262,6 +265,7 @@ pub(crate) fn ask_early(c: Copied, d: Drive, first: u32) -> Result<(), Fault>
 }
 
 // How many elements the link list has: bits 7-3 of byte 6, where 0 means 32.
+#[tactic(auto, unfolding(meaning::specs::Code::link_count))]
 fn link_count(c: Copied) -> u16
     ensures { result ≡ link_count c }
 {

@@ -43,6 +43,7 @@ fn four_at(memory: &[u8], at: usize) -> u32
 }
 
 // The element there.
+#[tactic(auto, unfolding(meaning::specs::Links::link_at))]
 fn link_at(memory: &[u8], at: usize) -> Link
     requires { at + link_bytes ≤ length memory.now }
     ensures { result ≡ link_at memory.now at }
@@ -55,6 +56,7 @@ fn link_at(memory: &[u8], at: usize) -> Link
 }
 
 // The list of n elements there, before elements of zeros.
+#[tactic(auto, unfolding(meaning::specs::Links::links_at))]
 pub(crate) fn links_at(memory: &[u8], at: usize, n: usize) -> [Link; 32]
     requires { (n ≤ most_links) × (1 ≤ n → at + link_bytes * n ≤ length memory.now) }
     ensures { result ≡ padded (links_at memory.now at n) }

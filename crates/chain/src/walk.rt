@@ -21,6 +21,7 @@ use meaning::{Copied, Drive, LentDrives, Record, Walked, WithTable};
 pub const MOST_COMMANDS: usize = 32;
 
 // What is found of a chain that is accepted: where the IOPBs of its commands are, before zeros, and how many commands it has.
+// stays: no heap here, so the addresses lie in an array, with how many of them count beside it.
 #[derive(Clone, Copy)]
 pub struct Found {
     pub addresses: [u32; 32],
@@ -117,6 +118,7 @@ fn follow_chain(memory: &[u8], start: u32) -> Result<Found, Refusal>
 
 // What a walk finds whose table has so many records: where the IOPBs of the chain's commands are, or why it refuses: 1, 2, then at each
 // IOPB in turn 5, 3, 4. No record is made yet, so that the table is left alone on a refusal.
+#[tactic(auto, unfolding(crate::specs::Found::chain_for))]
 pub fn find(
     memory: &[u8],
     disks: LentDisks<'_>,
@@ -147,6 +149,7 @@ pub fn record_at(memory: &[u8], l: LentDrives, at: u32) -> Record
 
 // The same with no list, which is the record itself where SGM is clear. The list is made before any test, so that the compiler sees one
 // list of zeros on every way, and lays it where the record goes.
+// stays: of one function for both the compiler makes a local record and copies it, and a walk without lists takes 1.6 times as long.
 pub fn plain_record_at(memory: &[u8], l: LentDrives, at: u32) -> Record
     ensures { result ≡ plain_record_at memory.now (drives_of l) at }
 {

@@ -1,8 +1,7 @@
 -- `chain::code::ask_all` meets its contract: each test decides whose answer it is.
 use mathlib.Core.Path.{◌≡◌, sym, ap, ◌∙◌}
-use Prim.Native.Nat.{ℕ, ◌≤◌}
+use Prim.Native.Nat.{◌≤◌}
 use borrow.Author.Rules.{rules}
-use native.Mathlib.Omega.{arith}
 use lib.ListN.{length}
 use Rattle.std.specs.Prelude.{Result, Err}
 use Rattle.chain.specs.declared.code.Fault.{Fault}

@@ -1,6 +1,5 @@
 -- `chain::code::ask_list` meets its contract: what the library sums is what the first row asks, and each row decides or leaves it to the next.
 use mathlib.Core.Path.{◌≡◌, sym, ◌∙◌}
-use Prim.Native.Nat.{ℕ}
 use borrow.Author.Rules.{rules}
 use borrow.Author.Tests.{eq-eqb, ne_eqb}
 use Rattle.std.specs.List.{sum_by}

@@ -1,5 +1,5 @@
 -- `chain::walk::walk_into` meets its contract: what is found, and the records that are made there, are the whole of the walk.
-use mathlib.Core.Path.{◌≡◌, sym, ap, ◌∙◌, subst}
+use mathlib.Core.Path.{◌≡◌, sym, subst}
 use native.Mathlib.Omega.{arith}
 use lib.ListN.{length, length-take}
 use Prim.Native.Nat.{ℕ}
