@@ -73,8 +73,7 @@ pub fn steps_of(r: Record) -> u32
 pub fn finished(r: Record) -> bool
     ensures { result ≡ command.finished r }
 {
-    let steps = steps_of(r);
-    steps <= r.taken
+    steps_of(r) <= r.taken
 }
 
 // How many steps of the command are left.
@@ -82,7 +81,5 @@ pub fn finished(r: Record) -> bool
 pub fn remaining(r: Record) -> u32
     ensures { result ≡ command.remaining r }
 {
-    let steps = steps_of(r);
-    let taken = r.taken;
-    if taken < steps { steps - taken } else { 0 }
+    steps_of(r).saturating_sub(r.taken)
 }

@@ -151,6 +151,7 @@ impl Hull {
 }
 
 // A footprint of nothing, all zeros.
+// stays: docs/CONTRACTS.md names it; its zeros are the derived default.
 pub fn no_footprint() -> Footprint
     ensures { result ≡ no_footprint }
 {
