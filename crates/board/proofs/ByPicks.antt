@@ -22,15 +22,15 @@ use Rattle.std.specs.declared.slice.ChunkBy.{ChunkBy}
 use Rattle.meaning.specs.Drives.{Drives}
 use Rattle.meaning.specs.declared.Record.{Record}
 use Rattle.meaning.specs.Each.{some_of}
-use Rattle.meaning.specs.Store.{Store, memory, disk}
-use Rattle.meaning.specs.State.{State, state_in, most_commands}
+use Rattle.meaning.specs.Store.{Store}
+use Rattle.meaning.specs.State.{state_in}
 use Rattle.meaning.specs.Command.{finished, remaining, no_record}
 use Rattle.meaning.specs.Step.{step, stepped}
-use Rattle.meaning.specs.Pick.{bad_record, waits, place_number, pick_number, step_at}
-use Rattle.meaning.specs.Run.{Tally, one_pick, picks_from, by_picks, advanced, steps_done, run_number}
+use Rattle.meaning.specs.Pick.{waits, place_number, pick_number, step_at}
+use Rattle.meaning.specs.Run.{one_pick, picks_from, by_picks, advanced, steps_done, run_number}
 use Rattle.meaning.proofs.Rows.{pass, stop}
 use Rattle.meaning.proofs.Means.{Means, holds, fails, means_lt}
-use Rattle.meaning.proofs.Numbers.{Passed, Free, run_passed, passed_place, place_free, free_place, none_bad, store_right, in_table}
+use Rattle.meaning.proofs.Numbers.{Passed, run_passed, passed_place, place_free, free_place, none_bad, store_right, in_table}
 use Rattle.meaning.proofs.Records.{some_unfinished, unfinished_some, remaining_stepped}
 use Rattle.meaning.proofs.Still.{passed_step}
 use Rattle.board.specs.declared.run.Watch.{Watch}

@@ -1,6 +1,6 @@
 -- Several steps of one command at once. Its sectors, moved one after another, are moved as some bytes of its data at once (`Windows`), which
 -- without a list lie in one piece; no step but the last closes the command.
-use mathlib.Core.Path.{◌≡◌, refl, sym, ap, ap₂, subst, ◌∙◌}
+use mathlib.Core.Path.{◌≡◌, refl, sym, ap, subst, ◌∙◌}
 use mathlib.Core.Logic.{◌≢◌}
 use Prim.Native.Nat.{ℕ, zero, suc, ◌+◌, ◌*◌, ◌≤◌, ◌<◌}
 use native.Mathlib.Nat.{not-suc-le-zero}
@@ -12,10 +12,11 @@ use lib.Seq.{sets}
 use borrow.Author.Tests.{eq-eqb, ne_eqb}
 use Rattle.meaning.specs.Drives.{Drives}
 use Rattle.meaning.specs.declared.Link.{Link}
+use Rattle.meaning.specs.declared.lends.LentStore.{LentStore}
 use Rattle.meaning.specs.declared.Record.{Record}
 use Rattle.meaning.specs.Store.{Store, memory, disk, lent, images, Move, move, moves}
 use Rattle.meaning.specs.Sectors.{sector_bytes}
-use Rattle.meaning.specs.Ranges.{Range, bytes}
+use Rattle.meaning.specs.Ranges.{Range}
 use Rattle.meaning.specs.Links.{range_of}
 use Rattle.meaning.specs.Command.{reads, writes, transfers, steps_of, remaining, links_of}
 use Rattle.meaning.specs.Touch.{data_bytes}
@@ -85,13 +86,7 @@ module _ (n : ℕ) (r : Record) (s : Store) (t : transfers r ≡ true) (y : Read
 
 -- a transfer that is ready, on memory and the image of its own unit
 module _ (n : ℕ) (r : Record) (m i : List ℕ) (t : transfers r ≡ true) (y : Ready n r (length m) (length i)) where
-  -- there is room for what it moves
-  pub plain_room : r.ranges ≡ 0 → (r.address + taken_bytes r + sector_bytes * n ≤ length m) × (on_disk r + taken_bytes r + sector_bytes * n ≤ length i)
-  plain_room plain =
-      let few = y.left t in
-      let all : All (Inside (length m)) (bytes r.address (sector_bytes * r.count) ∷ []) = subst (All (Inside (length m))) (data_plain r plain) (y.bytes t) in
-      (omega (arith, all.0), omega (arith, y.sectors t))
-
+  -- there is room for the pieces of its list
   pub listed_room : r.ranges ≢ 0 → All (λ x. Inside (length m) (range_of x)) (links_of r) × (on_disk r + (taken_bytes r + sector_bytes * n) ≤ length i)
   listed_room listed = (each (links_of r) (subst (All (Inside (length m))) (data_listed r listed) (y.bytes t)), omega (arith, y.sectors t))
     where
@@ -118,6 +113,10 @@ module _ (n : ℕ) (r : Record) (m i : List ℕ) (t : transfers r ≡ true) (y :
 
     pub listed_done : r.ranges ≢ 0 → Done (in_pieces n r)
     listed_done listed = done (in_pieces n r) (λ s. listed_moved n r (before s) t (ready_on s) listed)
+
+-- the images as they are lent
+abbrev pub lent_images : LentStore → List (List ℕ)
+lent_images s = images s.image0.now s.image1.now s.image2.now s.image3.now
 
 -- what is done to memory and the image of its unit u is done to all that is lent
 pub unit_done : (n : ℕ) (r : Record) (m : List ℕ) (is : List (List ℕ)) (u : ℕ) → r.unit ≡ u → u < length is → (m' i' : List ℕ)

@@ -1,14 +1,14 @@
 -- The numbers of a pick in their order, as the code tests them; what a look over the records in use tells of them; and what a pick gives,
 -- refused and accepted.
 use mathlib.Core.Path.{◌≡◌, refl, sym, ap, ◌∙◌, subst}
-use Prim.Native.Nat.{ℕ, ◌≤◌, ◌<◌, min}
+use Prim.Native.Nat.{ℕ, ◌≤◌, ◌<◌}
 use native.Mathlib.Omega.{arith}
-use mathlib.Core.Bool.{Bool, true, false, ◌||◌, cond}
+use mathlib.Core.Bool.{Bool, true, false, cond}
 use mathlib.Core.List.{List}
-use lib.ListN.{length, get_or, set, take, length-take}
-use lib.Seq.{take_all, take-take}
+use lib.ListN.{length, get_or, set, take}
+use lib.Seq.{take-take}
 use lib.Dec.{ltb, leb, eqb}
-use borrow.Author.Tests.{lt-ltb, le-ltb, ltb-false, le-leb, lt-leb, eq-eqb, ne_eqb}
+use borrow.Author.Tests.{lt-ltb, le-ltb, le-leb, lt-leb, eq-eqb, ne_eqb}
 use Rattle.std.specs.Prelude.{Result, Ok, Err}
 use Rattle.meaning.specs.Drives.{Drives}
 use Rattle.meaning.specs.declared.Record.{Record}
@@ -24,7 +24,6 @@ use Rattle.meaning.specs.Step.{step}
 use Rattle.meaning.specs.Run.{advanced}
 use Rattle.meaning.specs.Pick.{bad_record, spoiled, waits, place_number, pick_number, step_at, picked, PickGives}
 use Rattle.meaning.proofs.Rows.{pass, stop, or_first, or_second}
-use Rattle.meaning.proofs.Means.{Means, holds, fails, means_lt}
 use Rattle.meaning.proofs.Numbers.{sizes_long, sizes_store}
 use Rattle.meaning.proofs.Records.{unfinished_some}
 use Rattle.command.specs.Data.{bad_in}

@@ -1,25 +1,24 @@
 -- The search for an earlier command that blocks a place: what the places passed show, what a blocker shows, how footprints tell it, and what of
 -- it stays true when a step is taken somewhere. A step never makes a command block that did not, and changes nothing of what one touches.
-use mathlib.Core.Path.{◌≡◌, refl, sym, ap, ap₂, ◌∙◌, subst}
+use mathlib.Core.Path.{◌≡◌, refl, sym, ap, ap₂, ◌∙◌}
 use Prim.Native.Nat.{ℕ, zero, suc, ◌+◌, ◌≤◌, ◌<◌}
 use native.Mathlib.Nat.{not-suc-le-zero}
 use native.Mathlib.Numerals.{add-one}
 use native.Mathlib.Omega.{arith}
-use mathlib.Core.Bool.{Bool, true, false, not, ◌&&◌, ◌||◌, or_assoc, true≢false}
-use mathlib.Core.List.{List, [], ◌∷◌, ◌++◌}
-use lib.ListN.{length, get_or, set, take, replicate, length-set}
+use mathlib.Core.Bool.{Bool, true, false, not, ◌&&◌, true≢false}
+use mathlib.Core.List.{List, [], ◌∷◌}
+use lib.ListN.{length, get_or, set, take, replicate}
 use lib.Seq.{take-suc, take-set-le, get_or-set_same, get_or-set_other}
 use lib.Dec.{leb}
 use borrow.Author.Tests.{leb-true, le-leb, lt-leb}
 use Rattle.meaning.specs.declared.Record.{Record}
 use Rattle.meaning.specs.Each.{some_of}
-use Rattle.meaning.specs.State.{most_commands}
 use Rattle.meaning.specs.Command.{steps_of, finished, no_record}
 use Rattle.meaning.specs.Touch.{touched, conflict}
 use Rattle.meaning.specs.Step.{with_taken, stepped}
 use Rattle.meaning.specs.Pick.{waits}
 use Rattle.meaning.proofs.Rows.{or_none, or-false, and_first, and_second}
-use Rattle.meaning.proofs.Tests.{and_no}
+use Rattle.meaning.proofs.Tests.{and_no, some_append}
 use Rattle.meaning.proofs.Means.{Means, holds, fails, is_true, means_itself, means_eq, means_some}
 use Rattle.command.specs.declared.touch.Footprint.{Footprint}
 use Rattle.command.specs.Footprints.{footprint_of, footprints_meet}
@@ -31,16 +30,12 @@ use Rattle.board.specs.Watching.{no_watch, Watching}
 -- ---- a search from the front
 
 module _ {A : Type 0} (z : A) (f : A → Bool) where
-  pub some_append : (xs ys : List A) → some_of f (xs ++ ys) ≡ (some_of f xs || some_of f ys)
-  some_append [] ys = refl
-  some_append (x ∷ xs) ys = ap (λ (b : Bool). f x || b) (some_append xs ys) ∙ sym (or_assoc (f x) (some_of f xs) (some_of f ys))
-
   -- one place more is passed
   pub none_more : (l : List A) (k : ℕ) → k < length l → some_of f (take k l) ≡ false → f (get_or l k z) ≡ false → some_of f (take (k + 1) l) ≡ false
   none_more l k h e g =
       ap (λ (j : ℕ). some_of f (take j l)) (add-one k)
       ∙ ap (some_of f) (take-suc l k z h)
-      ∙ some_append (take k l) (get_or l k z ∷ [])
+      ∙ some_append f (take k l) (get_or l k z ∷ [])
       ∙ or_none _ _ e (or_none _ _ g refl)
 
   -- one of the first p passes the test
@@ -127,52 +122,6 @@ module _ (none : Watch) (at_front : none.searched ≡ 0) where
         within = λ p. omega (arith, zeros 32 p);
         free = λ p. ap (λ (k : ℕ). some_of (blocking (get_or t p no_record)) (take k t)) (zeros 32 p);
       }
-
-module _ (n : ℕ) (t : List Record) (ws : List Watch) (w : Watching n t ws) where
-  pub watching_fewer : (m : ℕ) → m ≤ n → Watching m t ws
-  watching_fewer m l = record { long = w.long; touches = λ p h. w.touches p (omega arith); within = w.within; free = w.free }
-
-  -- of q the watch is x
-  module _ (q : ℕ) (small : q < most_commands) (x : Watch) where
-    abbrev after_watch : List Watch
-    after_watch = set ws q x
-
-    is-there : get_or after_watch q no_watch ≡ x
-    is-there = get_or-set_same ws q x no_watch (omega (arith, w.long))
-
-    is-other : (p : ℕ) → (p ≡ q → ⊥) → get_or after_watch p no_watch ≡ get_or ws p no_watch
-    is-other p h = get_or-set_other ws q p x no_watch h
-
-    abbrev Free : ℕ → Watch → Type 0
-    Free p y = (y.searched ≤ p) × (some_of (blocking (get_or t p no_record)) (take y.searched t) ≡ false)
-
-    watching_set : (m : ℕ) → ((p : ℕ) → p < m → (p ≡ q → ⊥) → p < n) → (q < m → x.footprint ≡ footprint_of (get_or t q no_record)) → Free q x → Watching m t after_watch
-    watching_set m other own f =
-        record {
-          long = length-set ws q x ∙ w.long;
-          touches = λ p h. one p h (means_eq p q);
-          within = λ p. (each p (means_eq p q)).0;
-          free = λ p. (each p (means_eq p q)).1;
-        }
-      where
-        one : (p : ℕ) → p < m → {b : Bool} → Means (p ≡ q) b → (get_or after_watch p no_watch).footprint ≡ footprint_of (get_or t p no_record)
-        one p h (holds s) = rw (s, is-there) (own (subst (◌< m) s h))
-        one p h (fails g) = ap (λ (y : Watch). y.footprint) (is-other p g) ∙ w.touches p (other p h g)
-
-        each : (p : ℕ) {b : Bool} → Means (p ≡ q) b → Free p (get_or after_watch p no_watch)
-        each p (holds s) = rw (s, is-there) f
-        each p (fails g) = subst (Free p) (sym (is-other p g)) (w.within p, w.free p)
-
-  -- one footprint more
-  pub watching_more : n < most_commands → (x : Watch) → x.footprint ≡ footprint_of (get_or t n no_record) → x.searched ≡ (get_or ws n no_watch).searched → Watching (n + 1) t (set ws n x)
-  watching_more h x e s =
-      watching_set n h x (n + 1) (λ p l g. omega arith) (λ _. e)
-      (subst (λ (k : ℕ). (k ≤ n) × (some_of (blocking (get_or t n no_record)) (take k t) ≡ false)) (sym s) (w.within n, w.free n))
-
-  -- a search at q got as far as k
-  pub watching_to : (q : ℕ) → q < most_commands → (x : Watch) → x.footprint ≡ (get_or ws q no_watch).footprint → x.searched ≤ q → some_of (blocking (get_or t q no_record)) (take x.searched t) ≡ false
-      → Watching n t (set ws q x)
-  watching_to q h x e l f = watching_set q h x n (λ p s g. s) (λ s. e ∙ w.touches q s) (l, f)
 
 -- a step is taken at q
 module _ (t : List Record) (q : ℕ) (h : q < length t) where

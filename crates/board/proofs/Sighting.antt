@@ -41,9 +41,6 @@ module _ (size : ℕ) (d : Drives) (wanted : Record) (p : ℕ) (t : List Record)
   abbrev pub Seen : ℕ → Bool → Type 0
   Seen k w = (some_of (bad_in size d) (take k t) ≡ false) × (w ≡ waits_for k)
 
-  pub seen_none : Seen 0 false
-  seen_none = (refl, let e : 0 ≡ min 0 p = omega arith in ap (λ (k : ℕ). some_of (blocking wanted) (take k t)) e)
-
   pub seen_all : (w : Bool) → Seen (length t) w → Ok w ≡ looked_over size d wanted p t
   unfolding looked_over
   seen_all w y =

@@ -1,15 +1,11 @@
--- Steps taken, laid into a record: one step, and several.
-use mathlib.Core.Path.{◌≡◌, refl, sym, ap, ◌∙◌}
+-- Several steps of a command, as what is written into its record.
+use mathlib.Core.Path.{◌≡◌, sym, ap, ◌∙◌}
 use Prim.Native.Nat.{ℕ, zero, suc, ◌+◌}
 use native.Mathlib.Nat.{add-zero}
 use native.Mathlib.Omega.{arith}
 use Rattle.meaning.specs.declared.Record.{Record}
 use Rattle.meaning.specs.Step.{with_taken, stepped}
 use Rattle.meaning.specs.Run.{advanced}
-
-pub with_next : (r : Record) → with_taken (r.taken + 1) r ≡ stepped r
-unfolding with_taken stepped
-with_next r = refl
 
 pub steps_with : (k : ℕ) (r : Record) → advanced k r ≡ with_taken (r.taken + k) r
 unfolding advanced stepped with_taken

@@ -1,7 +1,7 @@
 -- Several sectors of a transfer moved at once. Some bytes of the data, from lo up to hi, lie in pieces, one of each range; moved up to a
 -- byte between and then from there on they are moved as one, since the later ranges hold only later bytes, and the two pieces of one range
 -- lie one behind the other. So the sectors of n steps are the bytes of n sectors, moved at once.
-use mathlib.Core.Path.{◌≡◌, refl, sym, ap, ap₂, subst, ◌∙◌, fun_ext}
+use mathlib.Core.Path.{◌≡◌, refl, sym, ap, ap₂, ◌∙◌, fun_ext}
 use Prim.Native.Nat.{ℕ, zero, suc, ◌+◌, ◌-◌, ◌*◌, ◌≤◌, ◌<◌, min}
 use native.Mathlib.Decide.{dec_le}
 use native.Mathlib.Omega.{arith}
@@ -10,7 +10,6 @@ use mathlib.Core.List.{List, [], ◌∷◌, map}
 use lib.ListN.{length, get_or, take, drop}
 use lib.Seq.{sets, drop-cons}
 use native.Mathlib.Numerals.{add-one}
-use native.Mathlib.Nat.{not-suc-le-zero, le_of_suc-le-suc}
 use Rattle.std.proofs.lemmas.List.{drop_all}
 use Rattle.meaning.specs.declared.Link.{Link}
 use Rattle.meaning.specs.declared.Record.{Record}
@@ -338,9 +337,3 @@ module _ (rd : Bool) (f lo hi : ℕ) (list : List Link) (m₀ i₀ : List ℕ) w
     pub laying_done : length list ≤ k → (u : ℕ) (s : Store) → on_unit u m i s ≡ window_moved u rd f (map range_of list) 0 lo hi (on_unit u m₀ i₀ s)
     unfolding window_moved moves
     laying_done h u s = sym (y u s ∙ ap (λ (xs : List Link). window_moved u rd f (map range_of xs) b lo hi (on_unit u m i s)) (drop_all k list h))
-
--- each range of a list lies within memory
-pub inside_at : (m : ℕ) (list : List Link) (k : ℕ) → All (λ x. Inside m (range_of x)) list → k < length list → Inside m (range_of (get_or list k no_link))
-inside_at m [] k h g = absurd (not-suc-le-zero g)
-inside_at m (x ∷ list) zero h g = h.0
-inside_at m (x ∷ list) (suc k) h g = inside_at m list k h.1 (le_of_suc-le-suc g)

@@ -1,5 +1,5 @@
--- What a pick sees of the records in use before its own place is asked. n is how many bytes memory has, d are the drives, r is the record that
--- wants to go, and p its place.
+-- What a pick sees of the records in use before its own place is asked. n is how many bytes memory has, d are the drives, r is the record
+-- that wants to go, and p its place.
 use Rattle.std.specs.Prelude.{ℕ, min, Bool, not, ◌&&◌, cond, List, take, Result, Ok, Err}
 use Rattle.meaning.specs.Drives.{Drives}
 use Rattle.meaning.specs.declared.Record.{Record}

@@ -1,4 +1,4 @@
-// The board's work on an accepted table: the steps of a command, a pick, and the two runs. What they hand back is what they change.
+// The board's work on an accepted table, where the caller lent it: the steps of a command, a pick, and the two runs.
 #![tactic(auto)]
 
 pub mod pick;

@@ -1,6 +1,6 @@
 // The two runs: by a lent list of picks, and as written within a step budget. Numbers 1 and 9 are tested once, before anything moves
 // (Run 8). The table is the caller's own, and only the steps taken are written into it.
-ghost use Rattle.std.specs.Prelude.{◌≡◌, ◌≤◌, ◌<◌, ℕ, suc, IfOk, false, true, eqb, get_or, length, ltb, min, set, take};
+ghost use Rattle.std.specs.Prelude.{◌≡◌, ◌≤◌, ◌<◌, ℕ, suc, IfOk, false, true, eqb, get_or, length, min, set, take};
 ghost use Rattle.std.specs.List.{sum_by};
 ghost use Rattle.meaning.specs.Each.{every_of, some_of};
 ghost use Rattle.meaning.specs.Lends.{store_of, SameLent};
@@ -38,7 +38,7 @@ fn opening(
     store: &LentStore<'_>,
     table: &[Record],
     commands: usize,
-) -> Result<[Watch; 32], Refusal>
+) -> Result<[Watch; RECORDS], Refusal>
     ensures number { told result ≡ run.run_number (drives_of store.now.drives) commands (state_in (store_of store.now) table.now) }
     ensures watching { IfOk result (λ watches. Watching commands table.now watches) }
 {
@@ -50,7 +50,7 @@ fn opening(
     }
     let size = store.memory.len() as u64;
     let rooms = rooms::rooms_of(store.drives);
-    let mut watches = [Watch::default(); 32];
+    let mut watches = [Watch::default(); RECORDS];
     for (place, r) in table[..commands].iter().enumerate() {
         let judged = sound::judge(size, rooms, *r);
         if judged.bad {
@@ -143,9 +143,10 @@ fn search_on(table: &[Record], watches: &[Watch], place: usize) -> usize
     ensures passed { some_of (blocking (get_or table.now place command.no_record)) (take result table.now) ≡ false }
     ensures stopped { result < place → blocking (get_or table.now place command.no_record) (get_or table.now result command.no_record) ≡ true }
 {
-    let Watch { footprint, searched } = watches[place];
-    for earlier in searched..place {
-        if blocks(&table[earlier], watches[earlier].footprint, &table[place], footprint) {
+    let wanted = watches[place];
+    for earlier in wanted.searched..place {
+        let touched = watches[earlier].footprint;
+        if blocks(&table[earlier], touched, &table[place], wanted.footprint) {
             return earlier;
         }
     }

@@ -45,15 +45,9 @@ fn close(memory: &mut [u8], l: LentDrives, r: &Record)
 }
 
 // So many bytes move between memory, from the byte `at` on, and image, from the byte `disk` on: to memory where the command reads. All copies
-// of a step are made here, so the direction is asked in one place.
-fn move_part(
-    memory: &mut [u8],
-    image: &mut [u8],
-    reads: bool,
-    at: usize,
-    disk: usize,
-    size: usize,
-)
+// of a step are made here.
+// stays: the direction is a flag, since a closure for each would have to hold both slices, and would be chosen by the same flag.
+fn move_part(memory: &mut [u8], image: &mut [u8], reads: bool, at: usize, disk: usize, size: usize)
     requires { (at + size ≤ length memory.old) × (disk + size ≤ length image.old) }
     ensures { (u : ℕ) (s : Store) → on_unit u memory.new image.new s ≡ move (part_move u reads at disk size) (on_unit u memory.old image.old s) }
 {
@@ -132,6 +126,7 @@ fn move_sectors(memory: &mut [u8], image: &mut [u8], r: &Record, n: u32)
 
 // The sectors of the next n steps of a command move between memory and the image of its own unit. A command that is no transfer moves none,
 // whatever its unit.
+// stays: an arm for each image, since the images are fields, and no proof covers a slice that several arms lend into one variable.
 fn move_on_unit(store: &mut LentStore<'_>, r: &Record, n: u32)
     requires { (1 ≤ n) × ReadyIn n r.now (store_of store.old) }
     ensures same { SameLent store.old store.new }

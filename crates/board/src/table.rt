@@ -13,6 +13,7 @@ use meaning::Record;
 use meaning::lends::LentStore;
 
 // Number 1: memory or an image of a wrong size, or a table that is too short.
+#[tactic(auto, unfolding(meaning::specs::Sizes::sizes_wrong))]
 pub(crate) fn wrong_size(store: &LentStore<'_>, table: &[Record]) -> bool
     ensures value { result ≡ sizes_wrong (drives_of store.now.drives) (state_in (store_of store.now) table.now) }
     ensures long { result ≡ false → most_commands ≤ length table.now }

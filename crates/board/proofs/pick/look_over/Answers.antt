@@ -6,7 +6,7 @@ use mathlib.Core.List.{List}
 use lib.ListN.{length, get_or, take}
 use Rattle.meaning.specs.declared.Record.{Record}
 use Rattle.meaning.specs.Command.{no_record}
-use Rattle.meaning.specs.Drives.{Drives, drives_of}
+use Rattle.meaning.specs.Drives.{drives_of}
 use Rattle.board.specs.Sight.{looked_over}
 use Rattle.board.proofs.Sighting.{Seen, seen_bad, seen_near, seen_far, seen_all}
 use Rattle.board.proofs.pick.look_over.Goals as goal

@@ -11,8 +11,8 @@ use Rattle.board.proofs.run.may_go.Goals.{then-commands-place-via-then-commands-
 pub returns-then-commands-place-clause-free : goal.returns-then-commands-place-clause-free
 returns-then-commands-place-clause-free c = let a = c.args in
     elim c.then-commands-place.branch [
-      then-commands-place-via-then-commands-place w ↦ ap (λ (k : ℕ). eqb k 0) (sym (no_place a.table.now a.commands a.place w.if-commands-place.true))
-    | then-commands-place-via-else-commands-place+then-finished w ↦ ap (λ (k : ℕ). eqb k 0) (sym (is_finished a.table.now a.commands a.place (omega (arith, w.if-commands-place.false)) (sym w.finished.ensures ∙ w.if-finished.true)))
+      | then-commands-place-via-then-commands-place w ↦ ap (λ (k : ℕ). eqb k 0) (sym (no_place a.table.now a.commands a.place w.if-commands-place.true))
+      | then-commands-place-via-else-commands-place+then-finished w ↦ ap (λ (k : ℕ). eqb k 0) (sym (is_finished a.table.now a.commands a.place (omega (arith, w.if-commands-place.false)) (sym w.finished.ensures ∙ w.if-finished.true)))
     ]
 
 pub returns-clause-free : goal.returns-clause-free

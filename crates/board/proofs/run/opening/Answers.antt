@@ -1,27 +1,25 @@
 -- `board::run::opening` meets its contract: the rows of a run one after another, and of number 9 one record after another.
 use mathlib.Core.Path.{◌≡◌, refl, sym, ap, ◌∙◌, subst}
-use Prim.Native.Nat.{ℕ, ◌+◌, ◌≤◌, ◌<◌}
+use Prim.Native.Nat.{ℕ, ◌<◌}
 use native.Mathlib.Omega.{arith}
 use mathlib.Core.Bool.{true, false}
-use mathlib.Core.List.{List}
-use lib.ListN.{length, get_or, take, replicate}
+use lib.ListN.{length, get_or, take}
 use borrow.Author.Rules.{rules}
 use Rattle.meaning.specs.Drives.{drives_of}
 use Rattle.meaning.specs.declared.Record.{Record}
 use Rattle.meaning.specs.Each.{some_of}
 use Rattle.meaning.specs.Lends.{store_of}
-use Rattle.meaning.specs.State.{state_in, most_commands}
+use Rattle.meaning.specs.State.{state_in}
 use Rattle.meaning.specs.Sizes.{sizes_wrong}
 use Rattle.meaning.specs.Command.{no_record}
 use Rattle.meaning.proofs.Numbers.{sizes_long}
 use Rattle.command.specs.Data.{bad_in}
 use Rattle.command.specs.declared.sound.Judged.{Judged}
 use Rattle.command.proofs.Data.{judged_by_rooms}
-use Rattle.command.specs.declared.touch.Footprint.{Footprint}
 use Rattle.command.specs.Footprints.{footprint_of}
 use Rattle.board.specs.Watching.{Watching}
 use lib.Seq.{get_or-take, length-take-le}
-use Rattle.board.proofs.Searching.{none_more, some_here, watching_none, watching_more}
+use Rattle.board.proofs.Searching.{none_more, some_here, watching_none}
 use Rattle.board.proofs.Runs.{wrong_sizes, too_many, by_bad}
 use Rattle.board.proofs.run.opening.Goals as goal
 use Rattle.board.proofs.run.opening.Goals.{Else-wrong_size, Else-commands-gt-RECORDS, After-judge-judged, After-loop-place}
@@ -78,7 +76,7 @@ loop-place-preserved c = let a = c.args in
     let h : l.place < a.commands = omega (arith, all, c.loop-place-test.true) in
     let long = sizes_long (drives_of a.store.now.drives) (state_in (store_of a.store.now) a.table.now) (right at.Else-wrong_size) in
     let e = said at.After-judge-judged h in (
-      watching_more l.place a.table.now l.watches l.invariant.0 (omega (arith, h, c.if-commands-gt-RECORDS.false)) _ (ap (λ (x : Judged). x.footprint) e) refl,
+      (search rules),
       none_more no_record (bad_in (length a.store.now.memory.now) (drives_of a.store.now.drives)) a.table.now l.place (omega (arith, long, h, c.if-commands-gt-RECORDS.false)) l.invariant.1 (sym (ap (λ (x : Judged). x.bad) e) ∙ c.if-judged.false),
     )
 

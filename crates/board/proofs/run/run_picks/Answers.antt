@@ -1,9 +1,8 @@
 -- `board::run::run_picks` meets its contract: numbers 1 and 9, and then its loop keeps `PicksLeft`.
-use mathlib.Core.Path.{◌≡◌, refl, sym, ap, ◌∙◌, subst}
-use Prim.Native.Nat.{ℕ, ◌+◌, ◌-◌, ◌≤◌, ◌<◌}
+use mathlib.Core.Path.{refl, sym, ap, ◌∙◌, subst}
+use Prim.Native.Nat.{ℕ, ◌+◌, ◌-◌, ◌≤◌}
 use native.Mathlib.Omega.{arith}
-use mathlib.Core.Bool.{Bool, true, false, false≢true}
-use mathlib.Core.List.{List}
+use mathlib.Core.Bool.{false≢true}
 use lib.ListN.{length, get_or}
 use lib.Seq.{length-take-le}
 use lib.Dec.{eqb}
@@ -19,7 +18,7 @@ use Rattle.meaning.specs.State.{state_in}
 use Rattle.meaning.specs.Command.{no_record}
 use Rattle.meaning.specs.Pick.{place_number}
 use Rattle.meaning.specs.Refusals.{told}
-use Rattle.meaning.specs.Run.{run_number, by_picks, steps_done, all_finished, RunGives}
+use Rattle.meaning.specs.Run.{by_picks, steps_done, all_finished, RunGives}
 use Rattle.meaning.proofs.Told.{number_not_0}
 use Rattle.meaning.proofs.Numbers.{place_free, most_32, table_long, in_table}
 use Rattle.board.proofs.Runs.{same_lent, refused_gives, accepted_gives}
@@ -78,9 +77,11 @@ loop-alike-preserved c = let a = c.args in
     let d = drives_of a.store.now.drives in
     let p = c.from-place.result in
     let steps = c.in-Some.ensures.steps in
-    let adjacent = (steps.2 eqb (still_compares _ eqb _ _ _ l.yielded_by (answers_always _ _ _ (λ f x r g called. search rules)))).1.0 in
-    (l.invariant.0, part_passed d a.commands a.picks.now (store_of a.store.now) a.table.now c.may_go.new.watches p (store_of l.store) l.table l.watches l.steps (chunk_by_rest l.alike-iterator) c.in-Some.alike.now (chunk_by_rest c.next.new.self) steps.0 adjacent c.from-place.ensures l.invariant.1 c.may_go.ensures.watching
-    (λ z. false≢true (sym c.if-may_go.false ∙ c.may_go.ensures.free ∙ eq-eqb (place_number l.table a.commands p) 0 z)))
+    let adjacent = (steps.2 eqb (still_compares _ eqb _ _ _ l.yielded_by (answers_always _ _ _ (λ f x r g called. search rules)))).1.0 in (
+      l.invariant.0,
+      part_passed d a.commands a.picks.now (store_of a.store.now) a.table.now c.may_go.new.watches p (store_of l.store) l.table l.watches l.steps (chunk_by_rest l.alike-iterator) c.in-Some.alike.now (chunk_by_rest c.next.new.self) steps.0 adjacent c.from-place.ensures l.invariant.1 c.may_go.ensures.watching
+          (λ z. false≢true (sym c.if-may_go.false ∙ c.may_go.ensures.free ∙ eq-eqb (place_number l.table a.commands p) 0 z)),
+    )
 
 there : (c : In-None) → c.args.commands ≤ length c.loop-alike.table
 there c = let a = c.args in

@@ -1,7 +1,5 @@
 -- `board::run::run_picks` meets its contract: its loop keeps `PicksLeft`, on what is lent.
-use Rattle.std.specs.Fn.{ComputesOnPairs}
-use Rattle.std.specs.Slice.Iter.{chunk_by_rest, chunk_by_callee}
-use lib.Dec.{eqb}
+use Rattle.std.specs.Slice.Iter.{chunk_by_rest}
 use Rattle.meaning.specs.Lends.{store_of, SameLent}
 use Rattle.meaning.specs.Drives.{drives_of}
 use Rattle.board.proofs.ByPicks.{PicksLeft}

@@ -3,7 +3,7 @@ use mathlib.Core.Path.{◌≡◌, refl, sym, ap, ◌∙◌, subst, subst₂}
 use Prim.Native.Nat.{ℕ, ◌+◌, ◌-◌, ◌≤◌}
 use native.Mathlib.Omega.{arith}
 use mathlib.Core.List.{List}
-use lib.ListN.{length, get_or, take}
+use lib.ListN.{length, get_or}
 use lib.Seq.{length-take-le}
 use Rattle.meaning.specs.declared.Record.{Record}
 use Rattle.meaning.specs.declared.Ran.{Ran}
@@ -13,7 +13,7 @@ use Rattle.meaning.specs.Lends.{store_of}
 use Rattle.meaning.specs.State.{state_in}
 use Rattle.meaning.specs.Command.{no_record}
 use Rattle.meaning.specs.Refusals.{told}
-use Rattle.meaning.specs.Run.{run_number, as_written, steps_done, all_finished, RunGives}
+use Rattle.meaning.specs.Run.{as_written, steps_done, all_finished, RunGives}
 use Rattle.meaning.proofs.Told.{number_not_0}
 use Rattle.board.proofs.Runs.{same_lent, refused_gives, accepted_gives}
 use Rattle.board.proofs.Written.{WrittenLeft, written_begin, in_use_there, turn_ready, next_turn, all_written}

@@ -1,10 +1,6 @@
 -- `board::step::move_sectors` meets its contract: without a list the sectors lie in one piece, else in the pieces of the list.
-use Rattle.board.proofs.Moving.{plain_room, listed_room, plain_done, listed_done}
+use Rattle.board.proofs.Moving.{listed_room, plain_done, listed_done}
 use Rattle.board.proofs.step.move_sectors.Goals as goal
-
-pub move_plain-requires : goal.move_plain-requires
-move_plain-requires c = let a = c.args in
-    plain_room a.n a.r.now a.memory.now a.image.now c.requires.0 c.requires.1 c.if-r-eq0.true
 
 pub move_pieces-requires : goal.move_pieces-requires
 move_pieces-requires c = let a = c.args in
