@@ -3,11 +3,14 @@
 use mathlib.Core.Path.{◌≡◌, refl, sym, ap, ap₂, ◌∙◌}
 use Prim.Native.Nat.{ℕ, ◌-◌, ◌≤◌}
 use native.Mathlib.Omega.{arith}
-use mathlib.Core.List.{List, ◌++◌}
-use lib.ListN.{length, take, drop, replicate, take-append-drop}
+use mathlib.Core.List.{List, [], ◌∷◌, ◌++◌}
+use lib.ListN.{length, get_or, take, drop, replicate, take-append-drop}
 use lib.Seq.{length-take-le}
 use Rattle.meaning.specs.Bench as bench
 use Rattle.std.specs.Prelude.{Ok, Err}
+use Rattle.meaning.specs.declared.refusals.Refusal.{Refusal}
+use Rattle.meaning.specs.declared.refusals.Refusal.TheVariants.{WrongSize, OddAddress, OutsideMemory, SharedIopb, LongChain, Waits, Finished, NoPlace, Spoiled, NoSector, NoUnit}
+use Rattle.meaning.specs.Refusals.{number_of}
 use Rattle.deck.specs.declared.Refused.TheVariants.{NoDeck, NoChain}
 use Rattle.deck.specs.Meant.{Report, meant, codes_in, Reports}
 use Rattle.deck.specs.Put.{Put, PrintGives}
@@ -30,6 +33,27 @@ same_codes cs ds full₁ full₂ n k h i codes x y =
     let zeros : drop n cs ≡ drop k ds = x ∙ ap (λ (j : ℕ). replicate (32 - j) 0) many ∙ sym y in
     (many, same_halves n k cs ds codes zeros)
 
+-- two refusals of one number are the same
+refusal_of : ℕ → Refusal
+refusal_of n = get_or (NoUnit ∷ WrongSize ∷ OddAddress ∷ OutsideMemory ∷ SharedIopb ∷ LongChain ∷ Waits ∷ Finished ∷ NoPlace ∷ Spoiled ∷ NoSector ∷ []) n NoUnit
+
+own_number : (r : Refusal) → refusal_of (number_of r) ≡ r
+unfolding refusal_of
+own_number WrongSize = refl
+own_number OddAddress = refl
+own_number OutsideMemory = refl
+own_number SharedIopb = refl
+own_number LongChain = refl
+own_number Waits = refl
+own_number Finished = refl
+own_number NoPlace = refl
+own_number Spoiled = refl
+own_number NoSector = refl
+own_number NoUnit = refl
+
+by_number : (r s : Refusal) → number_of r ≡ number_of s → r ≡ s
+by_number r s e = sym (own_number r) ∙ ap refusal_of e ∙ own_number s
+
 -- reports with the same meaning, and zeros past their codes, are the same
 one_report : (o : bench.Outcome) (x y : Report) → length (codes_in x) ≡ 32 → length (codes_in y) ≡ 32 → Reports o x → Reports o y → x ≡ y
 unfolding meant
@@ -48,8 +72,8 @@ one_report o (Err (NoChain n)) (Ok y) full₁ full₂ p q = let same = p.means �
 one_report o (Err (NoChain n)) (Err NoDeck) full₁ full₂ p q = let same = p.means ∙ sym q.means in let z : ◌≡◌ {A = ℕ} 0 1 = cc in absurd (omega arith)
 one_report o (Err (NoChain n)) (Err (NoChain k)) full₁ full₂ p q =
     let same = p.means ∙ sym q.means in
-    let number : n ≡ k = cc in
-    ap (λ (j : ℕ). Err (NoChain j)) number
+    let number : number_of n ≡ number_of k = cc in
+    ap (λ (j : Refusal). Err (NoChain j)) (by_number n k number)
 
 pub each_has_one_reply : EachHasOneReply
 unfolding PrintGives

@@ -10,6 +10,8 @@ use borrow.Author.Tests.{le-leb, lt-leb}
 use Rattle.std.proofs.lemmas.Bool.{cond-false, cond-true}
 use Rattle.meaning.specs.declared.LentDrives.{LentDrives}
 use Rattle.meaning.specs.declared.Record.{Record}
+use Rattle.meaning.specs.declared.refusals.Refusal.{Refusal}
+use Rattle.meaning.specs.Refusals.{number_of}
 use Rattle.meaning.specs.Store.{lent, images}
 use Rattle.meaning.specs.Drives.{drives_of}
 use Rattle.meaning.specs.Deck.{is_deck, bench_drives, bench_memory, bench_image}
@@ -40,9 +42,9 @@ module _ (e : Refused) where
   unfolding meant lines_of
   none_lines is = sym (ap (λ (x : Refused). lines_of (meant (Err x))) is)
 
-  pub refused_lines : (n : ℕ) → e ≡ NoChain n → chain_word ++ space ∷ decimal n ++ newline ∷ [] ≡ lines_of (meant (Err e))
+  pub refused_lines : (r : Refusal) → e ≡ NoChain r → chain_word ++ space ∷ decimal (number_of r) ++ newline ∷ [] ≡ lines_of (meant (Err e))
   unfolding meant lines_of
-  refused_lines n is = sym (ap (λ (x : Refused). lines_of (meant (Err x))) is)
+  refused_lines r is = sym (ap (λ (x : Refused). lines_of (meant (Err x))) is)
 
 -- ---- what reports what
 
@@ -51,9 +53,9 @@ module _ (o : bench.Outcome) where
   unfolding meant
   reports_none e = record { means = sym e; few = lit≤ tt; rest = refl }
 
-  pub reports_refused : (n : ℕ) → o ≡ no_chain n → Reports o (Err (NoChain n))
+  pub reports_refused : (r : Refusal) → o ≡ no_chain (number_of r) → Reports o (Err (NoChain r))
   unfolding meant
-  reports_refused n e = record { means = sym e; few = lit≤ tt; rest = refl }
+  reports_refused r e = record { means = sym e; few = lit≤ tt; rest = refl }
 
   pub reports_ran : (rs : List Record) (n steps : ℕ) (codes : List ℕ) → n ≤ 32 → take n codes ≡ codes_of rs → drop n codes ≡ replicate (32 - n) 0
       → o ≡ ran (codes_of rs) steps → Reports o (Ok (record { commands = n; steps = steps; codes = codes }))

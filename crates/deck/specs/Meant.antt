@@ -1,6 +1,7 @@
 -- What a report of a deck means, case by case.
 use Rattle.std.specs.Prelude.{◌≡◌, ℕ, ◌-◌, ◌≤◌, List, map, take, drop, replicate, Result, Ok, Err}
 use Rattle.meaning.specs.declared.Record.{Record}
+use Rattle.meaning.specs.Refusals.{number_of}
 use Rattle.meaning.specs.Store.{Store}
 use Rattle.meaning.specs.Drives.{Drives}
 use Rattle.meaning.specs.State.{most_commands}
@@ -19,7 +20,7 @@ Report = Result RanChain Refused
 unfoldable pub meant : Report → bench.Outcome
 meant (Ok x) = ran (take x.commands x.codes) x.steps
 meant (Err NoDeck) = no_deck
-meant (Err (NoChain n)) = no_chain n
+meant (Err (NoChain r)) = no_chain (number_of r)
 
 -- the codes of commands
 abbrev pub codes_of : List Record → List ℕ

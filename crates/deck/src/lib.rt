@@ -5,6 +5,8 @@ pub mod laid;
 pub mod lines;
 pub mod run;
 
+use meaning::refusals::Refusal;
+
 // What comes of a deck whose chain ran: so many commands, in so many steps, and the codes of the commands in front of zeros.
 // stays: the count beside the codes, since the report is one value only with the zeros in it (`EachHasOneReply`)
 #[derive(Clone, Copy)]
@@ -14,10 +16,9 @@ pub struct RanChain {
     pub codes: [u8; 32],
 }
 
-// Why none runs: the bytes are no deck, or the walk refuses its chain, with this number.
-// stays: a number, as the walk's answer to C has it (`Walked`)
+// Why none runs: the bytes are no deck, or the walk refuses its chain.
 #[derive(Clone, Copy, Debug, PartialEq, Eq)]
 pub enum Refused {
     NoDeck,
-    NoChain(u8),
+    NoChain(Refusal),
 }

@@ -131,7 +131,7 @@ impl Text {
     {
         match refused {
             Refused::NoDeck => self.put_word(b"deck\n"),
-            Refused::NoChain(number) => self.put_count(b"chain", u64::from(number)),
+            Refused::NoChain(refusal) => self.put_count(b"chain", u64::from(u8::from(refusal))),
         }
     }
 

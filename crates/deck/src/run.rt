@@ -6,7 +6,9 @@ ghost use Rattle.meaning.specs.Bench.{outcome_of};
 ghost use Rattle.deck.specs.Meant.{Reports, codes_of, chain_outcome};
 
 use crate::{RanChain, Refused, laid};
+use board::run;
 use chain::walk;
+use meaning::lends::{LentDisks, LentStore};
 use meaning::{LentDrives, Record};
 
 // The codes of the commands, in front of zeros.
@@ -27,35 +29,33 @@ fn codes_of(table: &[Record; 32], commands: usize) -> [u8; 32]
 fn run_chain(memory: &mut [u8], image: &mut [u8], l: LentDrives) -> Result<RanChain, Refused>
     ensures { Reports (chain_outcome (drives_of l) (lent memory.old (images image.old [] [] []))) result }
 {
-    let mut none1 = [0u8; 0];
-    let mut none2 = [0u8; 0];
-    let mut none3 = [0u8; 0];
-    let w = walk::walk(
+    let mut table = tables::no_records();
+    let disks = LentDisks {
+        image0: image,
+        image1: &[],
+        image2: &[],
+        image3: &[],
+        drives: l,
+    };
+    let commands = match walk::walk_into(memory, disks, 0, &mut table) {
+        Ok(commands) => commands,
+        Err(refusal) => return Err(Refused::NoChain(refusal)),
+    };
+    let codes = codes_of(&table, commands);
+    let budget = run::chain_steps(&table, commands);
+    let mut store = LentStore {
         memory,
-        image,
-        &none1,
-        &none2,
-        &none3,
-        l,
-        0,
-        tables::no_records(),
-    );
-    let walked = w.walked;
-    let number = walked.number;
-    if number != 0 {
-        return Err(Refused::NoChain(number));
-    }
-    let table = w.table;
-    let commands = walked.commands;
-    let budget = board::run::chain_steps(table, commands);
-    let run = tables::run_written(
-        memory, image, &mut none1, &mut none2, &mut none3, l, table, commands, budget,
-    );
-    let ran = run.ran;
+        image0: image,
+        image1: &mut [],
+        image2: &mut [],
+        image3: &mut [],
+        drives: l,
+    };
+    let ran = run::run_written(&mut store, &mut table, commands, budget);
     Ok(RanChain {
         commands,
         steps: ran.steps,
-        codes: codes_of(&table, commands),
+        codes,
     })
 }
 
