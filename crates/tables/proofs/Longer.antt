@@ -18,7 +18,7 @@ use Rattle.meaning.specs.Sizes.{sizes_wrong}
 use Rattle.meaning.specs.Command.{finished, remaining, no_record}
 use Rattle.meaning.specs.Step.{step, stepped}
 use Rattle.meaning.specs.Pick.{bad_record, spoiled, waits, place_number, pick_number, step_at}
-use Rattle.meaning.specs.Run.{Tally, at_start, one_pick, picks_from, by_picks, advanced, steps_done, written, as_written, all_finished, run_number}
+use Rattle.meaning.specs.Run.{Tally, at_start, one_pick, picks_from, by_picks, steps_done, written, as_written, all_finished, run_number}
 use Rattle.meaning.proofs.Means.{Means, holds, fails, means_lt}
 use Rattle.meaning.proofs.Numbers.{full_table, pick_passed, place_free, most_32}
 use Rattle.board.proofs.Picking.{no_place, over_most, by_records}

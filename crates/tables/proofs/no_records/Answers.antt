@@ -7,7 +7,6 @@ use lib.ListN.{length, get_or, replicate}
 use Rattle.std.proofs.lemmas.List.{ext_get_or, get_or-replicate}
 use Rattle.std.specs.Array.{AllOfLen}
 use Rattle.meaning.specs.declared.Link.{Link}
-use Rattle.meaning.specs.declared.Record.{Record}
 use Rattle.meaning.specs.Links.{no_link, no_links, most_links}
 use Rattle.meaning.specs.Command.{blank_record}
 use Rattle.meaning.specs.State.{most_commands}
