@@ -7,7 +7,7 @@ use native.Mathlib.Numerals.{add-one}
 use native.Mathlib.Omega.{arith}
 use mathlib.Core.Bool.{Bool, true, false, not, ◌&&◌, true≢false, and-false}
 use mathlib.Core.List.{List, [], ◌∷◌}
-use lib.ListN.{length, get_or, set, take, replicate}
+use lib.ListN.{length, get_or, set, take, replicate, length-set}
 use lib.Seq.{take-suc, take-set-le, get_or-set_same, get_or-set_other}
 use lib.Dec.{leb}
 use borrow.Author.Tests.{leb-true, le-leb, lt-leb}
@@ -17,6 +17,7 @@ use Rattle.meaning.specs.declared.Record.{Record}
 use Rattle.meaning.specs.Each.{some_of}
 use Rattle.meaning.specs.Command.{steps_of, finished, no_record}
 use Rattle.meaning.specs.Touch.{touched, conflict}
+use Rattle.meaning.specs.State.{most_commands}
 use Rattle.meaning.specs.Step.{with_taken, stepped}
 use Rattle.meaning.specs.Pick.{waits}
 use Rattle.meaning.proofs.Rows.{and_second}
@@ -122,6 +123,29 @@ module _ (none : Watch) (at_front : none.searched ≡ 0) where
         touches = λ p h. absurd (not-suc-le-zero h);
         within = λ p. omega (arith, zeros 32 p);
         free = λ p. ap (λ (k : ℕ). some_of (blocking (get_or t p no_record)) (take k t)) (zeros 32 p);
+      }
+
+-- one command more, at place n: w is what is kept of it now
+module _ (t : List Record) (n : ℕ) (ws : List Watch) (few : n < most_commands) (watched : Watching n t ws) (w : Watch)
+  (touched : w.footprint ≡ footprint_of (get_or t n no_record)) (still : w.searched ≡ (get_or ws n no_watch).searched) where
+  there : n < length ws
+  there = omega (arith, few, watched.long)
+
+  same_searched : (p : ℕ) {b : Bool} → Means (p ≡ n) b → (get_or (set ws n w) p no_watch).searched ≡ (get_or ws p no_watch).searched
+  same_searched p (holds s) = rw (s, get_or-set_same ws n w no_watch there) still
+  same_searched p (fails k) = ap (λ (x : Watch). x.searched) (get_or-set_other ws n p w no_watch k)
+
+  touches_more : (p : ℕ) {b : Bool} → Means (p ≡ n) b → p < n + 1 → (get_or (set ws n w) p no_watch).footprint ≡ footprint_of (get_or t p no_record)
+  touches_more p (holds s) l = rw (s, get_or-set_same ws n w no_watch there) touched
+  touches_more p (fails k) l = ap (λ (x : Watch). x.footprint) (get_or-set_other ws n p w no_watch k) ∙ watched.touches p (omega (arith, l, k))
+
+  pub watching_more : Watching (n + 1) t (set ws n w)
+  watching_more =
+      record {
+        long = length-set ws n w ∙ watched.long;
+        touches = λ p l. touches_more p (means_eq p n) l;
+        within = λ p. omega (arith, same_searched p (means_eq p n), watched.within p);
+        free = λ p. ap (λ (k : ℕ). some_of (blocking (get_or t p no_record)) (take k t)) (same_searched p (means_eq p n)) ∙ watched.free p;
       }
 
 -- a step is taken at q

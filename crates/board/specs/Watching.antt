@@ -1,6 +1,6 @@
 -- What a run by picks keeps of its commands beside the table: of each of the first n what it touches, and how many earlier commands are known
 -- not to block it.
-use Rattle.std.specs.Prelude.{◌≡◌, ℕ, ◌≤◌, ◌<◌, false, List, length, get_or, take}
+use Rattle.std.specs.Prelude.{◌≡◌, ℕ, ◌≤◌, ◌<◌, false, List, [], length, get_or, take}
 use Rattle.meaning.specs.declared.Record.{Record}
 use Rattle.meaning.specs.Each.{some_of}
 use Rattle.meaning.specs.State.{most_commands}
@@ -9,9 +9,9 @@ use Rattle.command.specs.Footprints.{no_footprint, footprint_of}
 use Rattle.board.specs.declared.run.Watch.{Watch}
 use Rattle.board.specs.Sight.{blocking}
 
--- of nothing, all zeros
+-- of nothing
 abbrev pub no_watch : Watch
-no_watch = record { footprint = no_footprint; searched = 0 }
+no_watch = record { footprint = no_footprint; searched = 0; unused = [] }
 
 -- t is the table now
 pub record Watching (n : ℕ) (t : List Record) (ws : List Watch) : Type 0 where

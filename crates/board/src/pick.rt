@@ -30,14 +30,14 @@ fn look_over(
 {
     let wanted = &table[place.min(RECORDS - 1)];
     let rooms = rooms::rooms_of(drives);
-    let footprint = touch::footprint_of(*wanted);
+    let footprint = touch::footprint_of(wanted);
     let mut waits = false;
     for (k, r) in table[..commands].iter().enumerate() {
-        let seen = sound::look(memory, rooms, *r, footprint, k < place);
+        let seen = sound::look(memory, rooms, r, footprint, k < place);
         if seen.bad {
             return Err(Refusal::Spoiled);
         }
-        waits |= seen.near && touch::ranges_conflict(*r, *wanted);
+        waits |= seen.near && touch::ranges_conflict(r, wanted);
     }
     Ok(waits)
 }

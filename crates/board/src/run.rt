@@ -25,11 +25,14 @@ use meaning::{Ran, Record};
 use units::rooms;
 
 // What a run by picks keeps of a command beside its record: what it touches, which no step changes, and how many earlier commands are known
-// not to block it. A command only ever comes nearer to its end, so one that once did not block a place never blocks it again.
+// not to block it. A command only ever comes nearer to its end, so one that once did not block a place never blocks it again. It fills 64
+// bytes, so that an element's place is found by a shift, and by no product that is wider than 32 bits (Drive 8).
 #[derive(Clone, Copy, Default)]
 struct Watch {
     footprint: Footprint,
     searched: usize,
+    // nothing looks at it
+    unused: [u64; 3],
 }
 
 // Numbers 1 and 9, which both runs test first. Where neither is given all footprints of the commands are known: the list of a command is
@@ -52,7 +55,7 @@ fn opening(
     let rooms = rooms::rooms_of(store.drives);
     let mut watches = [Watch::default(); RECORDS];
     for (place, r) in table[..commands].iter().enumerate() {
-        let judged = sound::judge(size, rooms, *r);
+        let judged = sound::judge(size, rooms, r);
         if judged.bad {
             return Err(Refusal::Spoiled);
         }
@@ -132,7 +135,7 @@ fn blocks(earlier: &Record, touched: Footprint, later: &Record, wanted: Footprin
 {
     earlier.taken < touched.steps
         && touch::footprints_meet(touched, wanted)
-        && touch::ranges_conflict(*earlier, *later)
+        && touch::ranges_conflict(earlier, later)
 }
 
 // The search for an earlier command that blocks the one at a place goes on where the last one at this place stopped: how far it gets, which

@@ -84,10 +84,10 @@ impl Hulled<'_> {
 }
 
 // A record that no table in use may hold, by the room of its own unit.
-pub fn bad_record(memory: u64, room: Room, r: Record) -> bool
-    ensures { result ≡ bad_by memory room r }
+pub fn bad_record(memory: u64, room: Room, r: &Record) -> bool
+    ensures { result ≡ bad_by memory room r.now }
 {
-    Hulled::of(&r).bad(memory, room)
+    Hulled::of(r).bad(memory, room)
 }
 
 // What is said of a record before any step: its footprint, and whether it is bad.
@@ -99,10 +99,10 @@ pub struct Judged {
 }
 
 // A record's footprint, and whether the record is bad, from one way through its list.
-pub fn judge(memory: u64, rooms: Rooms, r: Record) -> Judged
-    ensures { result ≡ judged_as memory rooms r }
+pub fn judge(memory: u64, rooms: Rooms, r: &Record) -> Judged
+    ensures { result ≡ judged_as memory rooms r.now }
 {
-    let record = Hulled::of(&r);
+    let record = Hulled::of(r);
     Judged {
         footprint: record.footprint(),
         bad: record.bad_among(memory, rooms),
@@ -118,10 +118,10 @@ pub struct Looked {
 }
 
 // A record, as a pick sees it that wants to go to a command with the footprint `wanted`.
-pub fn look(memory: u64, rooms: Rooms, r: Record, wanted: Footprint, earlier: bool) -> Looked
-    ensures { result ≡ looked_as memory rooms r wanted earlier }
+pub fn look(memory: u64, rooms: Rooms, r: &Record, wanted: Footprint, earlier: bool) -> Looked
+    ensures { result ≡ looked_as memory rooms r.now wanted earlier }
 {
-    let record = Hulled::of(&r);
+    let record = Hulled::of(r);
     Looked {
         bad: record.bad_among(memory, rooms),
         near: record.may_block(wanted, earlier),

@@ -222,10 +222,10 @@ pub(crate) fn moved(r: &Record) -> u32
 }
 
 // The footprint of a command.
-pub fn footprint_of(r: Record) -> Footprint
-    ensures { result ≡ footprint_of r }
+pub fn footprint_of(r: &Record) -> Footprint
+    ensures { result ≡ footprint_of r.now }
 {
-    Hulled::of(&r).footprint()
+    Hulled::of(r).footprint()
 }
 
 impl Footprint {
@@ -335,12 +335,12 @@ fn data_conflicts(r: &Record, s: &Record) -> bool
 
 // Two commands conflict, by their ranges pair by pair.
 #[tactic(auto, using(crate::proofs::Touching::conflict_is), unfolding(crate::proofs::Touching::five))]
-pub fn ranges_conflict(r: Record, s: Record) -> bool
-    ensures { result ≡ touch.conflict r s }
+pub fn ranges_conflict(r: &Record, s: &Record) -> bool
+    ensures { result ≡ touch.conflict r.now s.now }
 {
-    status(&r).meet(status(&s))
-        || meet_data(status(&r), &s)
-        || meet_data(status(&s), &r)
-        || data_conflicts(&r, &s)
-        || Sectors::of(&r).meet(Sectors::of(&s))
+    status(r).meet(status(s))
+        || meet_data(status(r), s)
+        || meet_data(status(s), r)
+        || data_conflicts(r, s)
+        || Sectors::of(r).meet(Sectors::of(s))
 }

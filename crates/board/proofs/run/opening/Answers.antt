@@ -19,7 +19,7 @@ use Rattle.command.proofs.Data.{judged_by_rooms}
 use Rattle.command.specs.Footprints.{footprint_of}
 use Rattle.board.specs.Watching.{Watching}
 use lib.Seq.{get_or-take, length-take-le}
-use Rattle.board.proofs.Searching.{none_more, some_here, watching_none}
+use Rattle.board.proofs.Searching.{none_more, some_here, watching_none, watching_more}
 use Rattle.board.proofs.Runs.{wrong_sizes, too_many, by_bad}
 use Rattle.board.proofs.run.opening.Goals as goal
 use Rattle.board.proofs.run.opening.Goals.{Else-wrong_size, Else-commands-gt-RECORDS, After-judge-judged, After-loop-place}
@@ -54,7 +54,7 @@ slice_bounds-r-items-end c = let at = goal.at.slice_bounds-r-items-end c in
     sym (there at.Else-commands-gt-RECORDS (right at.Else-wrong_size))
 
 pub loop-place-init : goal.loop-place-init
-loop-place-init c = (watching_none c.default-watches.result c.default-watches.ensures.1 c.args.table.now, refl)
+loop-place-init c = (watching_none c.default-watches.result c.default-watches.ensures.1.0 c.args.table.now, refl)
 
 pub returns-then-judged-clause-number : goal.returns-then-judged-clause-number
 returns-then-judged-clause-number c = let a = c.args in
@@ -76,7 +76,7 @@ loop-place-preserved c = let a = c.args in
     let h : l.place < a.commands = omega (arith, all, c.loop-place-test.true) in
     let long = sizes_long (drives_of a.store.now.drives) (state_in (store_of a.store.now) a.table.now) (right at.Else-wrong_size) in
     let e = said at.After-judge-judged h in (
-      (search rules),
+      watching_more a.table.now l.place l.watches (omega (arith, h, c.if-commands-gt-RECORDS.false)) l.invariant.0 _ (ap (λ (x : Judged). x.footprint) e) refl,
       none_more no_record (bad_in (length a.store.now.memory.now) (drives_of a.store.now.drives)) a.table.now l.place (omega (arith, long, h, c.if-commands-gt-RECORDS.false)) l.invariant.1 (sym (ap (λ (x : Judged). x.bad) e) ∙ c.if-judged.false),
     )
 
