@@ -13,6 +13,7 @@ pub mod view;
 use meaning::refusals::Refusal;
 
 // The number that C is told: 0 where nothing is refused.
+// stays: a number for a refusal, which is the C interface
 pub(crate) fn number_of(answer: Result<(), Refusal>) -> u8
     ensures { result ≡ told answer }
 {
