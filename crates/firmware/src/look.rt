@@ -1,5 +1,6 @@
 // A look at a sector of a unit, for C and Rust to call (Look 1 to 7): an exported function cannot hand back a part of what it was lent, so the
 // part is named by its place in the unit's image and its length.
+// stays: images and drives are each a parameter, refusals are told by number, and no part is an empty one, since C calls these
 ghost use Rattle.std.specs.Prelude.{◌≡◌, []};
 ghost use Rattle.meaning.specs.Store.{lent, images};
 ghost use Rattle.meaning.specs.Drives.{drives_of};

@@ -4,6 +4,7 @@ ghost use Rattle.meaning.specs.Place.{placed};
 
 use meaning::{Drive, Placed};
 
+// stays: a number beside the place, since C is handed it so
 // The place, with its number: 1 for a drive that cannot be, then 10 for a number that the drive has not, otherwise 0.
 #[unsafe(no_mangle)]
 pub extern "C" fn rosadenca_place(drive: Drive, sector: u32) -> Placed

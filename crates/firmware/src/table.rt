@@ -1,6 +1,7 @@
 // The walk, the pick, the two runs and a chain's steps over a table that is lent as a run of records, for C and Rust to call. They are
 // thin over the same calls of `chain` and `board`, and mean the same as those on a table by value (Record 2); a lent table shorter than 32
 // gets 1 (Size 4). No call copies the table.
+// stays: memory, images and drives are each a parameter, and refusals are told by number, since C calls these (include/rosadenca.h)
 ghost use Rattle.std.specs.Prelude.{◌≡◌, min};
 ghost use Rattle.meaning.specs.Store.{lent, images};
 ghost use Rattle.meaning.specs.Drives.{drives_of};

@@ -4,6 +4,7 @@ ghost use Rattle.meaning.specs.View.{view_of};
 
 use meaning::Iopb;
 
+// stays: a number beside the fields, since C is handed them so
 // The number of the viewer's making, and every field; each field is 0 where the number is not.
 #[unsafe(no_mangle)]
 pub extern "C" fn rosadenca_view(memory: &[u8], at: u32) -> Iopb
