@@ -30,7 +30,7 @@ use Rattle.meaning.proofs.Records.{unfinished_some}
 use Rattle.command.specs.Data.{bad_in}
 use Rattle.command.proofs.Data.{bad_in_lem}
 use Rattle.board.specs.Ready.{ReadyIn}
-use Rattle.board.specs.Sight.{place_seen, blocking, looked_over}
+use Rattle.board.specs.Sight.{place_looked_at, blocking, looked_over}
 use Rattle.board.proofs.Moving.{ready}
 use Rattle.board.proofs.Searching.{none_here}
 
@@ -90,7 +90,7 @@ module _ (d : Drives) (n p : ℕ) (s : Store) (t : List Record) where
 
       -- what a look over the records in use tells: a refusal is that of the pick
       abbrev look : Result Bool Refusal
-      look = looked_over (length (s memory)) d (get_or t (place_seen p) no_record) p (take n t)
+      look = looked_over (length (s memory)) d (get_or t (place_looked_at p) no_record) p (take n t)
 
       -- else the number is that of the place, and for a place in use it is known whether it waits
       pub record Sees (w : Bool) : Type 0 where
@@ -103,7 +103,7 @@ module _ (d : Drives) (n p : ℕ) (s : Store) (t : List Record) where
       Told (Err e) = pick_number d n p whole ≡ number_of e
 
       tells : (b : Bool) → some_of (bad_in (length (s memory)) d) (take n t) ≡ b
-          → Told (cond b (Err Spoiled) (Ok (some_of (blocking (get_or t (place_seen p) no_record)) (take p (take n t)))))
+          → Told (cond b (Err Spoiled) (Ok (some_of (blocking (get_or t (place_looked_at p) no_record)) (take p (take n t)))))
       unfolding pick_number waits
       tells true e = cond-false _ _ _ right ∙ cond-true _ _ _ (sym seen_spoiled ∙ e)
       tells false e =
@@ -112,7 +112,7 @@ module _ (d : Drives) (n p : ℕ) (s : Store) (t : List Record) where
             number = cond-false _ _ _ right ∙ cond-false _ _ _ (sym seen_spoiled ∙ e);
             waiting =
                 λ h.
-                let own : place_seen p ≡ p = omega arith in
+                let own : place_looked_at p ≡ p = omega arith in
                 ap (λ (q : ℕ). some_of (blocking (get_or t q no_record)) (take p (take n t))) own ∙ ap (some_of (blocking (get_or t p no_record))) (take-take p n t (omega arith));
           }
 

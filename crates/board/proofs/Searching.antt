@@ -127,7 +127,7 @@ module _ (none : Watch) (at_front : none.searched ≡ 0) where
 
 -- one command more, at place n: w is what is kept of it now
 module _ (t : List Record) (n : ℕ) (ws : List Watch) (few : n < most_commands) (watched : Watching n t ws) (w : Watch)
-  (touched : w.footprint ≡ footprint_of (get_or t n no_record)) (still : w.searched ≡ (get_or ws n no_watch).searched) where
+    (touched : w.footprint ≡ footprint_of (get_or t n no_record)) (still : w.searched ≡ (get_or ws n no_watch).searched) where
   there : n < length ws
   there = omega (arith, few, watched.long)
 

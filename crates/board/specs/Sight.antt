@@ -11,8 +11,8 @@ use Rattle.meaning.specs.Touch.{conflict}
 use Rattle.command.specs.Data.{bad_in}
 
 -- the place whose record is looked at, which a table of 32 has
-abbrev pub place_seen : ℕ → ℕ
-place_seen p = min p 31
+abbrev pub place_looked_at : ℕ → ℕ
+place_looked_at p = min p 31
 
 -- an earlier command e makes r wait
 abbrev pub blocking : Record → Record → Bool

@@ -6,7 +6,7 @@ ghost use Rattle.meaning.specs.Drives.{drives_of};
 ghost use Rattle.meaning.specs.State.{state_in, most_commands};
 ghost use Rattle.meaning.specs.Command.{no_record};
 ghost use Rattle.meaning.specs.Pick.{PickGives};
-ghost use Rattle.board.specs.Sight.{place_seen, looked_over};
+ghost use Rattle.board.specs.Sight.{place_looked_at, looked_over};
 
 use crate::{RECORDS, step, table};
 use command::{sound, touch};
@@ -26,7 +26,7 @@ fn look_over(
     drives: LentDrives,
 ) -> Result<bool, Refusal>
     requires { (commands ≤ length table.now) × (most_commands ≤ length table.now) }
-    ensures { result ≡ looked_over memory (drives_of drives) (get_or table.now (place_seen place) no_record) place (take commands table.now) }
+    ensures { result ≡ looked_over memory (drives_of drives) (get_or table.now (place_looked_at place) no_record) place (take commands table.now) }
 {
     let wanted = &table[place.min(RECORDS - 1)];
     let rooms = rooms::rooms_of(drives);

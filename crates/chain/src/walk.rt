@@ -205,7 +205,7 @@ pub fn walk_into(
     Ok(found.commands)
 }
 
-// What C and the bench are told of a walk: its number, which is 0 where it is accepted, and how many commands there are.
+// What C is told of a walk: its number, which is 0 where it is accepted, and how many commands there are.
 pub fn answer_of(commands: Result<usize, Refusal>) -> Walked
     ensures { result ≡ walked_of commands }
 {

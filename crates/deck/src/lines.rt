@@ -70,7 +70,7 @@ impl Text {
     }
 
     // A number in decimal, with no zeros before it.
-    // stays: by hand, as two hex digits do
+    // stays: `write!` may fail for all that its clauses say, as with two hex digits
     fn put_decimal(&mut self, n: u64)
         requires { length self.old + length (lines.decimal n) ≤ most_bytes }
         ensures { self.new ≡ self.old ++ lines.decimal n }

@@ -56,9 +56,13 @@ fn unit_wrong(l: LentDrives, unit: u8, bytes: u64) -> bool
 pub fn images_wrong(disks: LentDisks<'_>) -> bool
     ensures { (m : List ℕ) → result ≡ images_wrong (drives.drives_of disks.entry.drives) (lent m (images_of disks.entry)) }
 {
-    let drives = disks.drives;
-    unit_wrong(drives, 0, disks.image0.len() as u64)
-        || unit_wrong(drives, 1, disks.image1.len() as u64)
-        || unit_wrong(drives, 2, disks.image2.len() as u64)
-        || unit_wrong(drives, 3, disks.image3.len() as u64)
+    let units = [
+        (0, disks.image0.len() as u64),
+        (1, disks.image1.len() as u64),
+        (2, disks.image2.len() as u64),
+        (3, disks.image3.len() as u64),
+    ];
+    units
+        .iter()
+        .any(|&(unit, bytes)| unit_wrong(disks.drives, unit, bytes))
 }
