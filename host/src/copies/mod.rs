@@ -29,8 +29,8 @@ impl Default for Sizes {
 pub const LIMITS: [(&str, usize); 4] = [
     ("rosadenca_walk", 0),
     ("rosadenca_pick", 0),
-    ("rosadenca_run_picks", 2),
-    ("rosadenca_run_written", 2),
+    ("rosadenca_run_picks", 0),
+    ("rosadenca_run_written", 0),
 ];
 
 /// What was counted on one exported function.

@@ -185,8 +185,7 @@ pub fn page(rows: &[Row], counted: &[Counted]) -> String {
          {}\n\
          ## How often a table is copied\n\n\
          `tools/copies` counts it in the compiled module, along the way through each function that has most: all bytes of a \
-         table go from one place to another. None is allowed for the walk and for a pick, and two for each run. Fills are told beside \
-         it: all bytes of a table are set to one value. What is seen and what is not: docs/DECISIONS.md.\n\n\
+         table go from one place to another. None is allowed. Fills are told beside it: all bytes of a table are set to one value. What is seen and what is not: docs/DECISIONS.md.\n\n\
          {}",
         date.trim(),
         machine(),
