@@ -63,14 +63,7 @@ pub fn bench_drives(bytes: &[u8]) -> LentDrives
     ensures { result ≡ deck.bench_drives bytes.now }
 {
     let first = bench_drive(bytes);
-    let none = Drive {
-        cylinder: 0,
-        head: 0,
-        sector: 0,
-        last_sector: 0,
-        protected: false,
-        present: false,
-    };
+    let none = Drive::default();
     LentDrives {
         units: [first, none, none, none],
     }
