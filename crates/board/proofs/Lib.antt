@@ -6,6 +6,7 @@ pub mod Windows
 pub mod Moving
 pub mod Searching
 pub mod Picking
+pub mod Seen
 pub mod Sighting
 pub mod Taken
 pub mod Runs

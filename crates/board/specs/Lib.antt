@@ -5,4 +5,5 @@ pub mod Moved
 pub mod Ready
 pub mod RunAnswers
 pub mod Sight
+pub mod Seen
 pub mod Watching
