@@ -1,5 +1,6 @@
 pub mod Follow
 pub mod Found
+pub mod OneReply
 pub mod Over
 pub mod Past
 pub mod Alone

@@ -1,4 +1,5 @@
 pub mod Past
 pub mod Coding
 pub mod Found
+pub mod OneReply
 pub mod Records

@@ -9,8 +9,8 @@ use lib.Seq.{length-take-le}
 use Rattle.meaning.specs.Bench as bench
 use Rattle.std.specs.Prelude.{Ok, Err}
 use Rattle.meaning.specs.declared.refusals.Refusal.{Refusal}
-use Rattle.meaning.specs.declared.refusals.Refusal.TheVariants.{WrongSize, OddAddress, OutsideMemory, SharedIopb, LongChain, Waits, Finished, NoPlace, Spoiled, NoSector, NoUnit}
 use Rattle.meaning.specs.Refusals.{number_of}
+use Rattle.meaning.proofs.Told.{by_number}
 use Rattle.deck.specs.declared.Refused.TheVariants.{NoDeck, NoChain}
 use Rattle.deck.specs.Meant.{Report, meant, codes_in, Reports}
 use Rattle.deck.specs.Put.{Put, PrintGives}
@@ -32,27 +32,6 @@ same_codes cs ds full₁ full₂ n k h i codes x y =
     let many : n ≡ k = omega (arith, length-take-le n cs (omega arith), length-take-le k ds (omega arith), ap length codes) in
     let zeros : drop n cs ≡ drop k ds = x ∙ ap (λ (j : ℕ). replicate (32 - j) 0) many ∙ sym y in
     (many, same_halves n k cs ds codes zeros)
-
--- two refusals of one number are the same
-refusal_of : ℕ → Refusal
-refusal_of n = get_or (NoUnit ∷ WrongSize ∷ OddAddress ∷ OutsideMemory ∷ SharedIopb ∷ LongChain ∷ Waits ∷ Finished ∷ NoPlace ∷ Spoiled ∷ NoSector ∷ []) n NoUnit
-
-own_number : (r : Refusal) → refusal_of (number_of r) ≡ r
-unfolding refusal_of
-own_number WrongSize = refl
-own_number OddAddress = refl
-own_number OutsideMemory = refl
-own_number SharedIopb = refl
-own_number LongChain = refl
-own_number Waits = refl
-own_number Finished = refl
-own_number NoPlace = refl
-own_number Spoiled = refl
-own_number NoSector = refl
-own_number NoUnit = refl
-
-by_number : (r s : Refusal) → number_of r ≡ number_of s → r ≡ s
-by_number r s e = sym (own_number r) ∙ ap refusal_of e ∙ own_number s
 
 -- reports with the same meaning, and zeros past their codes, are the same
 one_report : (o : bench.Outcome) (x y : Report) → length (codes_in x) ≡ 32 → length (codes_in y) ≡ 32 → Reports o x → Reports o y → x ≡ y
