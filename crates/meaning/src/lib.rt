@@ -1,5 +1,6 @@
 // What the rules of the board speak of: the types, here, and the rules themselves as definitions, in specs/ (docs/RULES.md says them in
-// words). Nothing here runs. The crates above prove their code equal to these definitions.
+// words). Of what is here only the lending on of images and the numbers of refusals run. The crates above prove their code equal to these
+// definitions.
 #![tactic(auto)]
 
 pub mod lends;
