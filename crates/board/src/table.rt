@@ -30,6 +30,7 @@ pub(crate) fn wrong_size(store: &LentStore<'_>, table: &[Record]) -> bool
 }
 
 // The same command with so many steps taken.
+#[tactic(auto, unfolding(meaning::specs::Step::with_taken))]
 pub fn with_taken(r: Record, taken: u32) -> Record
     ensures { result ≡ with_taken taken r }
 {
