@@ -1,14 +1,14 @@
--- The numbers of a pick in their order, as the code tests them; what a look over the records in use tells of them; and what a pick gives,
--- refused and accepted.
+-- The numbers of a pick in their order, as the code tests them; and what a look over the records in use tells: the number of a refusal, or
+-- what is seen of the table.
 use mathlib.Core.Path.{◌≡◌, refl, sym, ap, ◌∙◌, subst}
-use Prim.Native.Nat.{ℕ, ◌≤◌, ◌<◌}
+use Prim.Native.Nat.{ℕ, ◌≤◌, ◌<◌, min}
 use native.Mathlib.Omega.{arith}
 use mathlib.Core.Bool.{Bool, true, false, cond}
 use mathlib.Core.List.{List}
-use lib.ListN.{length, get_or, set, take}
-use lib.Seq.{take-take}
+use lib.ListN.{length, get_or, take, length-take}
+use lib.Seq.{take-take, take_all}
 use lib.Dec.{ltb, leb, eqb}
-use borrow.Author.Tests.{lt-ltb, le-ltb, le-leb, lt-leb, eq-eqb, ne_eqb}
+use borrow.Author.Tests.{lt-ltb, le-ltb, le-leb, lt-leb, ne_eqb}
 use Rattle.std.specs.Prelude.{Result, Ok, Err}
 use Rattle.std.proofs.lemmas.Bool.{cond-false, cond-true, or_left}
 use Rattle.meaning.specs.Drives.{Drives}
@@ -20,18 +20,16 @@ use Rattle.meaning.specs.Each.{some_of}
 use Rattle.meaning.specs.Store.{Store, memory}
 use Rattle.meaning.specs.State.{State, most_commands, state_in}
 use Rattle.meaning.specs.Sizes.{sizes_wrong}
-use Rattle.meaning.specs.Command.{finished, remaining, no_record}
-use Rattle.meaning.specs.Step.{step}
-use Rattle.meaning.specs.Run.{advanced}
-use Rattle.meaning.specs.Pick.{bad_record, spoiled, waits, place_number, pick_number, step_at, picked, PickGives}
+use Rattle.meaning.specs.Command.{finished, no_record}
+use Rattle.meaning.specs.Pick.{bad_record, spoiled, waits, place_number, pick_number, picked, PickGives}
 use Rattle.meaning.proofs.Rows.{or_second}
+use Rattle.meaning.proofs.Means.{Means, holds, fails, means_lt}
 use Rattle.meaning.proofs.Numbers.{sizes_long, sizes_store}
-use Rattle.meaning.proofs.Records.{unfinished_some}
 use Rattle.command.specs.Data.{bad_in}
 use Rattle.command.proofs.Data.{bad_in_lem}
-use Rattle.board.specs.Ready.{ReadyIn}
-use Rattle.board.specs.Sight.{place_looked_at, blocking, looked_over}
-use Rattle.board.proofs.Moving.{ready}
+use Rattle.board.specs.declared.pick.Sight.{Sight}
+use Rattle.board.specs.Sight.{blocking, looked_over}
+use Rattle.board.specs.Seen.{place_seen, sight_of, Unspoiled}
 use Rattle.board.proofs.Searching.{none_here}
 
 -- ---- numbers
@@ -63,7 +61,7 @@ pub by_records : (d : Drives) (n : ℕ) (s : State) → n ≤ most_commands → 
 unfolding spoiled
 by_records d n s h = or_second (ltb most_commands n) _ (le-ltb most_commands n h)
 
--- ---- a pick on a table that is long enough
+-- ---- a pick that is refused before its place is asked
 
 module _ (d : Drives) (n p : ℕ) (s : Store) (t : List Record) where
   abbrev whole : State
@@ -83,38 +81,36 @@ module _ (d : Drives) (n p : ℕ) (s : Store) (t : List Record) where
     unfolding pick_number
     too_many h = cond-false _ _ _ right ∙ cond-true _ _ _ (over_most d n whole h)
 
-    module _ (few : n ≤ most_commands) where
+    -- what a look over the records in use tells: `at` is the place looked at
+    module _ (few : n ≤ most_commands) (at : ℕ) (own : at ≡ place_seen p) where
       -- where sizes are right, what was tested of the records is what number 9 asks
       seen_spoiled : some_of (bad_in (length (s memory)) d) (take n t) ≡ spoiled d n whole
       seen_spoiled = sym (by_records d n whole few ∙ (λ j. some_of (λ r. bad_in_lem d s (sizes_store d whole right) r j) (take n t)))
 
-      -- what a look over the records in use tells: a refusal is that of the pick
+      -- the records in use before that place
+      before : take at (take n t) ≡ take (min n at) t
+      before = go (means_lt n at)
+        where
+          go : {b : Bool} → Means (n < at) b → take at (take n t) ≡ take (min n at) t
+          go (holds h) = let e : n ≡ min n at = omega arith in take_all at (take n t) (omega (arith, length-take n t)) ∙ ap (λ (k : ℕ). take k t) e
+          go (fails h) = let e : at ≡ min n at = omega arith in take-take at n t (omega arith) ∙ ap (λ (k : ℕ). take k t) e
+
       abbrev look : Result Bool Refusal
-      look = looked_over (length (s memory)) d (get_or t (place_looked_at p) no_record) p (take n t)
+      look = looked_over (length (s memory)) d (get_or t at no_record) at (take n t)
 
-      -- else the number is that of the place, and for a place in use it is known whether it waits
-      pub record Sees (w : Bool) : Type 0 where
-        pub sound : spoiled d n whole ≡ false
-        pub number : pick_number d n p whole ≡ place_number t n p
-        pub waiting : p < n → w ≡ waits t p
+      -- what is seen where no record in use is bad
+      abbrev free : Bool → Sight
+      free w = record { bad = false; blocked = w }
 
+      -- a refusal is that of the pick, and else what is seen of the table is known, and that it is not spoiled
       abbrev Told : Result Bool Refusal → Type 0
-      Told (Ok w) = Sees w
+      Told (Ok w) = (spoiled d n whole ≡ false) × (free w ≡ sight_of (length (s memory)) d n at t)
       Told (Err e) = pick_number d n p whole ≡ number_of e
 
-      tells : (b : Bool) → some_of (bad_in (length (s memory)) d) (take n t) ≡ b
-          → Told (cond b (Err Spoiled) (Ok (some_of (blocking (get_or t (place_looked_at p) no_record)) (take p (take n t)))))
-      unfolding pick_number waits
+      tells : (b : Bool) → some_of (bad_in (length (s memory)) d) (take n t) ≡ b → Told (cond b (Err Spoiled) (Ok (some_of (blocking (get_or t at no_record)) (take at (take n t)))))
+      unfolding pick_number sight_of
       tells true e = cond-false _ _ _ right ∙ cond-true _ _ _ (sym seen_spoiled ∙ e)
-      tells false e =
-          record {
-            sound = sym seen_spoiled ∙ e;
-            number = cond-false _ _ _ right ∙ cond-false _ _ _ (sym seen_spoiled ∙ e);
-            waiting =
-                λ h.
-                let own : place_looked_at p ≡ p = omega arith in
-                ap (λ (q : ℕ). some_of (blocking (get_or t q no_record)) (take p (take n t))) own ∙ ap (some_of (blocking (get_or t p no_record))) (take-take p n t (omega arith));
-          }
+      tells false e = (sym seen_spoiled ∙ e, λ j. record { bad = sym e j; blocked = some_of (blocking (get_or t at no_record)) (before j) })
 
       told_by : Told look
       unfolding looked_over
@@ -123,18 +119,19 @@ module _ (d : Drives) (n p : ℕ) (s : Store) (t : List Record) where
       pub look_refuses : (e : Refusal) → look ≡ Err e → pick_number d n p whole ≡ number_of e
       look_refuses e is = subst Told is told_by
 
-      pub look_accepts : (w : Bool) → look ≡ Ok w → Sees w
-      look_accepts w is = subst Told is told_by
+      pub look_accepts : (w : Bool) → look ≡ Ok w → free w ≡ sight_of (length (s memory)) d n at t
+      look_accepts w is = (subst Told is told_by).1
 
-      -- the record at a place in use is not bad, so there is room for its steps
-      pub room_here : p < n → spoiled d n whole ≡ false → finished (get_or t p no_record) ≡ false → (1 ≤ remaining (get_or t p no_record)) × ReadyIn 1 (get_or t p no_record) s
-      room_here in_use sound unfinished =
-          let some = unfinished_some (get_or t p no_record) unfinished in
-          let long = sizes_long d whole right in
-          let good = none_here no_record (bad_record d s) t p n in_use (omega (arith, long)) (sym (by_records d n whole few) ∙ sound) in
-          (some, ready d s (get_or t p no_record) 1 (sizes_store d whole right) good some)
-
-  -- one step is taken at the place
-  pub accepted_gives : pick_number d n p whole ≡ 0 → (u : Store) (t' : List Record) → u ≡ step d (get_or t p no_record) s → t' ≡ set t p (advanced 1 (get_or t p no_record)) → PickGives d n p whole 0 (state_in u t')
-  unfolding PickGives picked step_at advanced
-  accepted_gives e u t' eu et = (sym e, (λ j. record { table = et j; store = eu j }) ∙ sym (cond-true (eqb (pick_number d n p whole) 0) _ _ (eq-eqb _ 0 e)))
+      -- the record at a place in use is not bad then, so its step may be taken
+      pub look_unspoiled : (w : Bool) → look ≡ Ok w → Unspoiled d n p (get_or t at no_record) (free w) s
+      look_unspoiled w is =
+          record {
+            right = sizes_store d whole right;
+            few = few;
+            sound = refl;
+            good =
+                λ h f b.
+                let here : at ≡ p = own ∙ cond-true (ltb p most_commands) p 0 (lt-ltb p most_commands (omega arith)) in
+                let long = sizes_long d whole right in
+                none_here no_record (bad_record d s) t at n (omega arith) (omega (arith, long)) (sym (by_records d n whole few) ∙ (subst Told is told_by).0);
+          }

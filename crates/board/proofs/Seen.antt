@@ -1,13 +1,13 @@
--- What a pick sees of its table decides its number, and what it answers and changes by that is the whole of the pick (specs/Seen.antt). About
--- the definitions alone: no contract cites it.
-use mathlib.Core.Path.{◌≡◌, refl, sym, ap, ap₂, ◌∙◌}
+-- What a pick sees of its table decides its number, and what it answers and changes by that is the whole of the pick (specs/Seen.antt):
+-- `seen_gives`, by which the code is proved. Then what a pick answers and changes by what it sees, refused and accepted.
+use mathlib.Core.Path.{◌≡◌, refl, sym, ap, ap₂, ◌∙◌, subst, subst₂}
 use Prim.Native.Nat.{ℕ, ◌+◌, ◌≤◌, ◌<◌, min}
 use native.Mathlib.Omega.{arith}
 use mathlib.Core.Bool.{Bool, true, false, cond}
 use mathlib.Core.List.{List}
 use lib.ListN.{length, get_or, set, take}
 use lib.Dec.{ltb, leb, eqb}
-use borrow.Author.Tests.{lt-ltb, le-ltb, lt-leb, eqb-true}
+use borrow.Author.Tests.{lt-ltb, le-ltb, le-leb, lt-leb, eq-eqb, ne_eqb, eqb-true}
 use Rattle.std.proofs.lemmas.Bool.{cond-false, cond-true}
 use Rattle.meaning.specs.Drives.{Drives}
 use Rattle.meaning.specs.declared.Record.{Record}
@@ -23,13 +23,22 @@ use Rattle.meaning.proofs.Numbers.{full_table, pick_passed, place_free, most_32}
 use Rattle.command.specs.Data.{bad_in}
 use Rattle.command.proofs.Data.{bad_in_lem}
 use Rattle.board.specs.Sight.{blocking}
-use Rattle.board.specs.Seen.{Sight, PickedTaken, place_seen, sight_of, sight_number, PickSees, with_picked}
+use Rattle.board.specs.declared.pick.Sight.{Sight}
+use Rattle.board.specs.Seen.{PickedTaken, place_seen, sight_of, sight_number, refused_pick, PickSees, with_picked}
 use Rattle.board.proofs.Searching.{none_here}
 use Rattle.board.proofs.Picking.{no_place, over_most, by_records}
 
 with_next : (r : Record) → with_taken (r.taken + 1) r ≡ stepped r
 unfolding with_taken stepped
 with_next r = refl
+
+-- the place that is looked at is one of the 32
+pub seen_small : (p q : ℕ) → q ≡ place_seen p → q < most_commands
+seen_small p q e = subst (◌< most_commands) (sym e) (go (means_lt p most_commands))
+  where
+    go : {b : Bool} → Means (p < most_commands) b → cond b p 0 < most_commands
+    go (holds h) = h
+    go (fails h) = omega arith
 
 module _ (d : Drives) (n p : ℕ) (s : Store) (t : List Record) (long : most_commands ≤ length t) where
   abbrev whole : State
@@ -120,3 +129,80 @@ module _ (d : Drives) (n p : ℕ) (s : Store) (t : List Record) (long : most_com
           let table_is = cond-false _ _ _ (number ∙ e) in
           let Store-is = g.1 ∙ cond-false _ _ _ (ap (λ (k : ℕ). eqb k 0) same_number ∙ e) in
           (λ j. record { table = table_is j; store = Store-is j }) ∙ sym (cond-false _ _ _ e)
+
+  -- the same as the code has it: `at` is the place looked at, `used` are the records in use, and x is what is seen
+  module _ (at used : ℕ) (x : Sight) (ea : at ≡ place_seen p) (eu : used ≡ min n most_commands) (ex : x ≡ sight_of (length (s memory)) d used at t)
+      (a : PickedTaken) (u : Store) (g : PickSees d n p (get_or t at no_record) x s a u) where
+    sees : PickSees d n p here seen s a u
+    sees = subst₂ (λ (q : ℕ) (y : Sight). PickSees d n p (get_or t q no_record) y s a u) ea (ex ∙ ap₂ (λ (k q : ℕ). sight_of (length (s memory)) d k q t) eu ea) g
+
+    pub whole_pick : PickGives d n p whole a.number (record { table = with_picked a p t; store = u })
+    whole_pick = seen_gives a u sees
+
+    pub picked_at : a.number ≡ 0 → (at ≡ p) × (p < length t)
+    unfolding PickGives
+    picked_at e = let q = accepted_place (sym whole_pick.0 ∙ e) in (ea ∙ q.0, q.1)
+
+    -- the steps are laid at the place looked at, or nothing is laid
+    pub laid_there : (v : List Record) → v ≡ set t at (with_taken a.taken (get_or t at no_record)) → a.number ≡ 0 → PickGives d n p whole a.number (record { table = v; store = u })
+    laid_there v e on =
+        subst (λ (z : List Record). PickGives d n p whole a.number (record { table = z; store = u }))
+        (sym (e ∙ ap (λ (q : ℕ). set t q (with_taken a.taken (get_or t q no_record))) (picked_at on).0 ∙ sym (cond-true (eqb a.number 0) _ t (eq-eqb a.number 0 on)))) whole_pick
+
+    pub left_alone : (a.number ≡ 0 → ⊥) → PickGives d n p whole a.number (record { table = t; store = u })
+    left_alone off = subst (λ (z : List Record). PickGives d n p whole a.number (record { table = z; store = u })) (cond-false (eqb a.number 0) _ t (ne_eqb a.number 0 off)) whole_pick
+
+-- ---- what a pick answers and changes by what it sees
+
+module _ (d : Drives) (n p : ℕ) (r : Record) (seen : Sight) (s : Store) where
+  -- each number, once the tests before it are passed
+  abbrev number : ℕ
+  number = sight_number d n p r seen s
+
+  pub wrong_sizes : store_wrong d s ≡ true → number ≡ 1
+  unfolding sight_number
+  wrong_sizes e = cond-true _ _ _ e
+
+  module _ (right : store_wrong d s ≡ false) where
+    pub too_many : most_commands < n → number ≡ 9
+    unfolding sight_number
+    too_many h = cond-false _ _ _ right ∙ cond-true _ _ _ (lt-ltb most_commands n h)
+
+    module _ (few : n ≤ most_commands) where
+      unspoiled : number ≡ cond seen.bad 9 (cond (leb n p) 8 (cond (finished r) 7 (cond seen.blocked 6 (cond (bad_record d s r) 9 0))))
+      unfolding sight_number
+      unspoiled = cond-false _ _ _ right ∙ cond-false _ _ _ (le-ltb most_commands n few)
+
+      pub some_bad : seen.bad ≡ true → number ≡ 9
+      some_bad e = unspoiled ∙ cond-true _ _ _ e
+
+      module _ (sound : seen.bad ≡ false) where
+        pub not_there : n ≤ p → number ≡ 8
+        not_there h = unspoiled ∙ cond-false _ _ _ sound ∙ cond-true _ _ _ (le-leb n p h)
+
+        module _ (in_use : p < n) where
+          there : number ≡ cond (finished r) 7 (cond seen.blocked 6 (cond (bad_record d s r) 9 0))
+          there = unspoiled ∙ cond-false _ _ _ sound ∙ cond-false _ _ _ (lt-leb n p in_use)
+
+          pub at_end : finished r ≡ true → number ≡ 7
+          at_end e = there ∙ cond-true _ _ _ e
+
+          module _ (unfinished : finished r ≡ false) where
+            pub kept_waiting : seen.blocked ≡ true → number ≡ 6
+            kept_waiting e = there ∙ cond-false _ _ _ unfinished ∙ cond-true _ _ _ e
+
+            pub goes_by : seen.blocked ≡ false → (b : Bool) → bad_record d s r ≡ b → number ≡ cond b 9 0
+            goes_by e b f = there ∙ cond-false _ _ _ unfinished ∙ cond-false _ _ _ e ∙ ap (λ (x : Bool). cond x 9 0) f
+
+  pub refused_sees : (k : ℕ) (a : PickedTaken) → a ≡ refused_pick k → number ≡ k → (k ≡ 0 → ⊥) → PickSees d n p r seen s a s
+  unfolding PickSees
+  refused_sees k a ea e h =
+      let off = ne_eqb number 0 (λ q. h (sym e ∙ q)) in
+      let none = cond-false (eqb number 0) (r.taken + 1) 0 off in
+      (ea ∙ (λ j. record { number = sym e j; taken = sym none j }), sym (cond-false _ _ _ off))
+
+  pub accepted_sees : (u : Store) → number ≡ 0 → u ≡ step d r s → PickSees d n p r seen s (record { number = 0; taken = r.taken + 1 }) u
+  unfolding PickSees
+  accepted_sees u e eu =
+      let on = eq-eqb number 0 e in
+      (λ j. record { number = sym e j; taken = sym (cond-true (eqb number 0) (r.taken + 1) 0 on) j }, eu ∙ sym (cond-true _ _ _ on))

@@ -1,9 +1,10 @@
--- What a pick sees of its table, and what it answers and changes by that, taken apart: the statement that a pick by what is seen is the whole
--- of the pick (proofs/Seen.antt). The code takes both steps in one, `board::pick::pick`. d are the drives, n the number of commands, p the
--- place, r the record that is looked at there, and s the store before.
-use Rattle.std.specs.Prelude.{◌≡◌, ℕ, ◌+◌, min, Bool, cond, List, [], ◌∷◌, get_or, set, take, ltb, leb, eqb}
+-- What a pick sees of its table, and what it answers and changes by that. d are the drives, n the number of commands, p the place, r the
+-- record that is looked at there, and s the store before. proofs/Seen.antt proves that a pick by what is seen is the whole of the pick.
+use Rattle.std.specs.Prelude.{◌≡◌, ℕ, ◌+◌, ◌≤◌, ◌<◌, min, false, cond, List, [], ◌∷◌, get_or, set, take, ltb, leb, eqb, Result, Ok, Err}
 use Rattle.meaning.specs.Drives.{Drives}
 use Rattle.meaning.specs.declared.Record.{Record}
+use Rattle.meaning.specs.declared.refusals.Refusal.{Refusal}
+use Rattle.meaning.specs.Refusals.{number_of}
 use Rattle.meaning.specs.First.{Row, first_of, ◌↝◌}
 use Rattle.meaning.specs.Each.{some_of}
 use Rattle.meaning.specs.Store.{Store}
@@ -14,14 +15,10 @@ use Rattle.meaning.specs.Touch.{conflict}
 use Rattle.meaning.specs.Step.{step, with_taken}
 use Rattle.meaning.specs.Pick.{bad_record}
 use Rattle.command.specs.Data.{bad_in}
+use Rattle.board.specs.declared.pick.Sight.{Sight}
 use Rattle.board.specs.Sight.{blocking}
 
 -- ---- what is seen
-
--- beside the record at the place: whether a record in use is bad, and whether an earlier unfinished command conflicts with the one there
-pub record Sight : Type 0 where
-  pub bad : Bool
-  pub blocked : Bool
 
 -- the place whose record is looked at, which a table of 32 has
 abbrev pub place_seen : ℕ → ℕ
@@ -43,6 +40,11 @@ pub record PickedTaken : Type 0 where
   pub number : ℕ
   pub taken : ℕ
 
+-- as the code says it: the steps taken, or why it refuses
+abbrev pub picked_taken : Result ℕ Refusal → PickedTaken
+picked_taken (Ok n) = record { number = 0; taken = n }
+picked_taken (Err e) = record { number = number_of e; taken = 0 }
+
 -- The numbers in their order. The last row asks again of the record at the place what was asked of all in use.
 abbrev pub sight_rows : Drives → ℕ → ℕ → Record → Sight → Store → List Row
 sight_rows d n p r seen s =
@@ -58,6 +60,13 @@ sight_rows d n p r seen s =
 unfoldable pub sight_number : Drives → ℕ → ℕ → Record → Sight → Store → ℕ
 unfolding store_wrong finished bad_record
 sight_number d n p r seen s = first_of (sight_rows d n p r seen s) 0
+
+-- neither 1 nor 9 is given: of the last row it is enough to know this of a record that none of the rows before it refuses
+pub record Unspoiled (d : Drives) (n p : ℕ) (r : Record) (seen : Sight) (s : Store) : Type 0 where
+  pub right : store_wrong d s ≡ false
+  pub few : n ≤ most_commands
+  pub sound : seen.bad ≡ false
+  pub good : p < n → finished r ≡ false → seen.blocked ≡ false → bad_record d s r ≡ false
 
 abbrev pub refused_pick : ℕ → PickedTaken
 refused_pick k = record { number = k; taken = 0 }

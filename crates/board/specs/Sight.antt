@@ -1,6 +1,6 @@
 -- What a pick sees of the records in use before its own place is asked. n is how many bytes memory has, d are the drives, r is the record
 -- that wants to go, and p its place.
-use Rattle.std.specs.Prelude.{ℕ, min, Bool, not, ◌&&◌, cond, List, take, Result, Ok, Err}
+use Rattle.std.specs.Prelude.{ℕ, Bool, not, ◌&&◌, cond, List, take, Result, Ok, Err}
 use Rattle.meaning.specs.Drives.{Drives}
 use Rattle.meaning.specs.declared.Record.{Record}
 use Rattle.meaning.specs.declared.refusals.Refusal.{Refusal}
@@ -9,10 +9,6 @@ use Rattle.meaning.specs.Each.{some_of}
 use Rattle.meaning.specs.Command.{finished}
 use Rattle.meaning.specs.Touch.{conflict}
 use Rattle.command.specs.Data.{bad_in}
-
--- the place whose record is looked at, which a table of 32 has
-abbrev pub place_looked_at : ℕ → ℕ
-place_looked_at p = min p 31
 
 -- an earlier command e makes r wait
 abbrev pub blocking : Record → Record → Bool
