@@ -15,6 +15,7 @@ ghost use Rattle.board.specs.RunAnswers.{refused_run, accepted_run};
 ghost use Rattle.board.specs.Ready.{ReadyIn};
 ghost use Rattle.board.specs.Sight.{blocking};
 ghost use Rattle.board.specs.Watching.{no_watch, Watching};
+ghost use Rattle.board.specs.Together.{together};
 
 use crate::{RECORDS, step, table};
 use command::touch::Footprint;
@@ -170,8 +171,17 @@ fn may_go(table: &[Record], watches: &mut [Watch], commands: usize, place: usize
     searched == place
 }
 
+// Two picks next to each other are taken together: they name one place, or none of the chain's. Both are asked at once, since a branch on
+// whether they are equal is slow where picks of no place come in no order.
+fn together(commands: usize, a: u8, b: u8) -> bool
+    ensures { result ≡ together commands a b }
+{
+    (a == b) | (commands <= usize::from(a.min(b)))
+}
+
 // A run by picks: a refused pick is passed over, and counted; on 1 and 9 nothing is changed. Picks in a row at one place are taken together:
-// where the first of them may go, so may all that follow until the command is finished, and where it has to be passed over, so have all.
+// where the first of them may go, so may all that follow until the command is finished, and where it has to be passed over, so have all. So
+// are those in a row at places that the chain has not, which are all passed over.
 pub fn run_picks(
     store: &mut LentStore<'_>,
     table: &mut [Record],
@@ -186,7 +196,7 @@ pub fn run_picks(
         Err(refusal) => return refused(u8::from(refusal)),
     };
     let mut steps: u64 = 0;
-    for alike in picks.chunk_by(|a, b| a == b) {
+    for alike in picks.chunk_by(|a, b| together(commands, *a, *b)) {
         let place = usize::from(alike[0]);
         if may_go(table, &mut watches, commands, place) {
             steps += u64::from(take_within(store, table, place, alike.len() as u64));

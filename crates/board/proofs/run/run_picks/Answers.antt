@@ -5,11 +5,11 @@ use native.Mathlib.Omega.{arith}
 use mathlib.Core.Bool.{false≢true}
 use lib.ListN.{length, get_or}
 use lib.Seq.{length-take-le}
-use lib.Dec.{eqb}
 use borrow.Author.Rules.{rules}
 use borrow.Author.Tests.{eq-eqb, eqb-true}
-use Rattle.std.proofs.lemmas.List.Sorted.{answers_always}
-use Rattle.std.specs.Slice.Iter.{chunk_by_rest}
+use Rattle.std.proofs.lemmas.Fn.{always_returns_same}
+use Rattle.std.specs.Fn.{ComputesOnPairs}
+use Rattle.std.specs.Slice.Iter.{chunk_by_rest, chunk_by_callee}
 use Rattle.meaning.specs.declared.Ran.{Ran}
 use Rattle.meaning.specs.declared.LentDrives.{LentDrives}
 use Rattle.meaning.specs.Drives.{drives_of}
@@ -23,6 +23,7 @@ use Rattle.meaning.proofs.Told.{number_not_0}
 use Rattle.meaning.proofs.Numbers.{place_free, most_32, table_long, in_table}
 use Rattle.board.proofs.Runs.{same_lent, refused_gives, accepted_gives}
 use Rattle.board.proofs.ByPicks.{PicksLeft, picks_begin, room_for, part_passed, part_taken, all_picked, still_compares}
+use Rattle.board.specs.Together.{together}
 use Rattle.board.proofs.run.run_picks.Goals as goal
 use Rattle.board.proofs.run.run_picks.Goals.{In-None}
 
@@ -63,7 +64,9 @@ loop-alike-preserved-then-may_go c = let a = c.args in
     let v = c.take_within in
     let p = c.from-place.result in
     let steps = c.in-Some.ensures.steps in
-    let adjacent = (steps.2 eqb (still_compares _ eqb _ _ _ l.yielded_by (answers_always _ _ _ (λ f x r g called. search rules)))).1.0 in
+    let callee = ap chunk_by_callee c.into_iter-alike-iterator.ensures.into_iter_gives ∙ c.chunk_by-alike-items.ensures.closure in
+    let compares = still_compares _ (together a.commands) _ _ _ l.yielded_by (subst (ComputesOnPairs _ (together a.commands)) (sym callee) (always_returns_same _ _ _ (λ x r g called. search rules))) in
+    let adjacent = (steps.2 (together a.commands) compares).1.0 in
     let moved = v.ensures.moved ∙ ap (λ (x : LentDrives). steps_done (drives_of x) v.result (get_or l.table p no_record) (store_of l.store)) l.invariant.0.5 in (
       same_lent a.store.now l.store v.new.store l.invariant.0 v.ensures.same,
       subst (λ (k : ℕ). PicksLeft d a.commands a.picks.now (store_of a.store.now) a.table.now (store_of v.new.store) v.new.table c.may_go.new.watches (l.steps + k) (chunk_by_rest c.next.new.self)) (sym c.from-steps.ensures)
@@ -77,7 +80,9 @@ loop-alike-preserved c = let a = c.args in
     let d = drives_of a.store.now.drives in
     let p = c.from-place.result in
     let steps = c.in-Some.ensures.steps in
-    let adjacent = (steps.2 eqb (still_compares _ eqb _ _ _ l.yielded_by (answers_always _ _ _ (λ f x r g called. search rules)))).1.0 in (
+    let callee = ap chunk_by_callee c.into_iter-alike-iterator.ensures.into_iter_gives ∙ c.chunk_by-alike-items.ensures.closure in
+    let compares = still_compares _ (together a.commands) _ _ _ l.yielded_by (subst (ComputesOnPairs _ (together a.commands)) (sym callee) (always_returns_same _ _ _ (λ x r g called. search rules))) in
+    let adjacent = (steps.2 (together a.commands) compares).1.0 in (
       l.invariant.0,
       part_passed d a.commands a.picks.now (store_of a.store.now) a.table.now c.may_go.new.watches p (store_of l.store) l.table l.watches l.steps (chunk_by_rest l.alike-iterator) c.in-Some.alike.now (chunk_by_rest c.next.new.self) steps.0 adjacent c.from-place.ensures l.invariant.1 c.may_go.ensures.watching
           (λ z. false≢true (sym c.if-may_go.false ∙ c.may_go.ensures.free ∙ eq-eqb (place_number l.table a.commands p) 0 z)),

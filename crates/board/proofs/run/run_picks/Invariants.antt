@@ -8,4 +8,4 @@ use Rattle.board.proofs.run.run_picks.Given as goal
 abbrev pub invariant-loop-alike : goal.invariant-loop-alike
 invariant-loop-alike l =
     SameLent l.initial.store l.store
-    × PicksLeft (drives_of l.initial.store.drives) l.commands l.picks (store_of l.initial.store) l.initial.table (store_of l.store) l.table l.watches l.steps (chunk_by_rest l.alike-iterator)
+    × PicksLeft (drives_of l.initial.store.drives) l.fn.commands l.picks (store_of l.initial.store) l.initial.table (store_of l.store) l.table l.watches l.steps (chunk_by_rest l.alike-iterator)
