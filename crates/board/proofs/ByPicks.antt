@@ -59,18 +59,18 @@ search_decides t n p k in_use inside open-yet l clear stopped = go (means_lt k p
 
 -- two picks that are taken together, of which the first names a place of n commands, name the same; and of which the first names none, none
 together_equal : (n y z : ℕ) → together n y z ≡ true → y < n → z ≡ y
-together_equal n y z e h = go (eqb y z) refl
+together_equal n y z e h = go (leb n (min y z)) refl
   where
-    go : (b : Bool) → eqb y z ≡ b → z ≡ y
-    go true q = sym (eqb-true y z q)
-    go false q = let l = leb-true n (min y z) (sym (ap (λ (b : Bool). b || leb n (min y z)) q) ∙ e) in absurd (omega (arith, l, h))
+    go : (b : Bool) → leb n (min y z) ≡ b → z ≡ y
+    go true q = let l = leb-true n (min y z) q in absurd (omega (arith, l, h))
+    go false q = sym (eqb-true y z (sym (ap (λ (b : Bool). b || eqb y z) q) ∙ e))
 
 together_none : (n y z : ℕ) → together n y z ≡ true → n ≤ y → n ≤ z
-together_none n y z e h = go (eqb y z) refl
+together_none n y z e h = go (leb n (min y z)) refl
   where
-    go : (b : Bool) → eqb y z ≡ b → n ≤ z
-    go true q = let same = eqb-true y z q in omega (arith, same, h)
-    go false q = let l = leb-true n (min y z) (sym (ap (λ (b : Bool). b || leb n (min y z)) q) ∙ e) in omega (arith, l)
+    go : (b : Bool) → leb n (min y z) ≡ b → n ≤ z
+    go true q = let l = leb-true n (min y z) q in omega (arith, l)
+    go false q = let same = eqb-true y z (sym (ap (λ (b : Bool). b || eqb y z) q) ∙ e) in omega (arith, same, h)
 
 -- of picks that are each taken together with the next
 module _ (n : ℕ) (x rest : List ℕ) (adjacent : AllAdjacentBelow (λ y z. together n y z ≡ true) (x ++ rest) (length x)) where

@@ -2,4 +2,4 @@
 use Rattle.std.specs.Prelude.{ℕ, Bool, ◌||◌, min, eqb, leb}
 
 abbrev pub together : ℕ → ℕ → ℕ → Bool
-together n y z = eqb y z || leb n (min y z)
+together n y z = leb n (min y z) || eqb y z
