@@ -6,11 +6,11 @@ use Prim.Native.Nat.{ℕ, zero, suc, ◌+◌, ◌-◌, ◌≤◌, ◌<◌, min}
 use native.Mathlib.Nat.{add-zero}
 use native.Mathlib.Numerals.{add-one}
 use native.Mathlib.Omega.{arith}
-use mathlib.Core.Bool.{Bool, true, false, ◌||◌}
+use mathlib.Core.Bool.{Bool, true, false}
 use mathlib.Core.List.{List, [], ◌∷◌, ◌++◌}
 use lib.ListN.{length, get_or, set, take, get_or-append}
 use lib.Seq.{set-get_or, set-set, get_or-set_same}
-use lib.Dec.{eqb, leb}
+use lib.Dec.{eqb}
 use borrow.Author.Tests.{eq-eqb, ne_eqb, eqb-true}
 use denote.Ref.{Bor}
 use denote.Param.Members.{Mut}
@@ -19,7 +19,7 @@ use Rattle.std.specs.Iterator.{Yields}
 use Rattle.std.specs.Fn.{ComputesOnPairs}
 use Rattle.std.specs.Slice.Iter.{chunk_by_steps, chunk_by_callee}
 use Rattle.std.specs.declared.slice.ChunkBy.{ChunkBy}
-use Rattle.std.proofs.lemmas.Bool.{cond-false, cond-true, leb-true}
+use Rattle.std.proofs.lemmas.Bool.{cond-false, cond-true}
 use Rattle.meaning.specs.Drives.{Drives}
 use Rattle.meaning.specs.declared.Record.{Record}
 use Rattle.meaning.specs.Each.{some_of}
@@ -59,18 +59,10 @@ search_decides t n p k in_use inside open-yet l clear stopped = go (means_lt k p
 
 -- two picks that are taken together, of which the first names a place of n commands, name the same; and of which the first names none, none
 together_equal : (n y z : ℕ) → together n y z ≡ true → y < n → z ≡ y
-together_equal n y z e h = go (leb n (min y z)) refl
-  where
-    go : (b : Bool) → leb n (min y z) ≡ b → z ≡ y
-    go true q = let l = leb-true n (min y z) q in absurd (omega (arith, l, h))
-    go false q = sym (eqb-true y z (sym (ap (λ (b : Bool). b || eqb y z) q) ∙ e))
+together_equal n y z e h = let same = eqb-true (min y n) (min z n) e in omega (arith, same, h)
 
 together_none : (n y z : ℕ) → together n y z ≡ true → n ≤ y → n ≤ z
-together_none n y z e h = go (leb n (min y z)) refl
-  where
-    go : (b : Bool) → leb n (min y z) ≡ b → n ≤ z
-    go true q = let l = leb-true n (min y z) q in omega (arith, l)
-    go false q = let same = eqb-true y z (sym (ap (λ (b : Bool). b || eqb y z) q) ∙ e) in omega (arith, same, h)
+together_none n y z e h = let same = eqb-true (min y n) (min z n) e in omega (arith, same, h)
 
 -- of picks that are each taken together with the next
 module _ (n : ℕ) (x rest : List ℕ) (adjacent : AllAdjacentBelow (λ y z. together n y z ≡ true) (x ++ rest) (length x)) where

@@ -1,5 +1,5 @@
--- Which picks next to each other a run by picks takes at once: those that name one place, and those that name no place of n commands.
-use Rattle.std.specs.Prelude.{ℕ, Bool, ◌||◌, min, eqb, leb}
+-- Which picks next to each other a run by picks takes at once: those that name one place, where all places past n commands count as one.
+use Rattle.std.specs.Prelude.{ℕ, Bool, min, eqb}
 
 abbrev pub together : ℕ → ℕ → ℕ → Bool
-together n y z = leb n (min y z) || eqb y z
+together n y z = eqb (min y n) (min z n)

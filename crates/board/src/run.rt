@@ -171,12 +171,12 @@ fn may_go(table: &[Record], watches: &mut [Watch], commands: usize, place: usize
     searched == place
 }
 
-// Two picks next to each other are taken together: they name no place of the chain, or one place. Whether they are equal is asked last, since
-// a branch on that is slow where picks of no place come in no order.
+// Two picks next to each other are taken together: they name one place, where all places that the chain has not count as one. That is one
+// comparison, which always holds among picks of no place: a branch on whether they are equal is slow where they come in no order.
 fn together(commands: usize, a: u8, b: u8) -> bool
     ensures { result ≡ together commands a b }
 {
-    commands <= usize::from(a.min(b)) || a == b
+    usize::from(a).min(commands) == usize::from(b).min(commands)
 }
 
 // A run by picks: a refused pick is passed over, and counted; on 1 and 9 nothing is changed. Picks in a row at one place are taken together:
