@@ -16,7 +16,7 @@ use Rattle.meaning.specs.View.{made_number, view_of}
 use Rattle.meaning.specs.Walk.{WalkGives}
 use Rattle.meaning.specs.Pick.{pick_number, step_at, picked, PickGives}
 use Rattle.meaning.specs.Run.{chain_steps, by_picks, as_written, ran_to, run_reply, RunGives}
-use Rattle.meaning.proofs.OneReply.{one_equation, two_equations}
+use Rattle.meaning.proofs.OneReply.{one_equation, two_equations, told_equation}
 use Rattle.meaning.proofs.Told.{told_once}
 use Rattle.meaning.proofs.Spaces.{AsLong}
 use Rattle.meaning.proofs.Still.{step_keeps_lengths}
@@ -90,5 +90,6 @@ each_has_one_reply =
       look_refused = λ d u n s r r' e e'. told_once r r' (e ∙ sym e');
       view_refused = λ m a r r' e e'. told_once r r' (e ∙ sym e');
       pick_refused = λ d n p s x y e e' j. (told_once x.0 y.0 (e.0 ∙ sym e'.0) j, (e.1 ∙ sym e'.1) j);
+      lent_part = told_equation (λ x. x.now);
       disks_lent_on = λ s x y e e' j. ((e.0 ∙ sym e'.0) j, (e.1 ∙ sym e'.1) j, (e.2 ∙ sym e'.2) j, (e.3 ∙ sym e'.3) j, (e.4 ∙ sym e'.4) j);
     }

@@ -66,4 +66,6 @@ pub record EachHasOneReply : Type 1 where
   pub look_refused : (d : Drives) (u n : ℕ) (s : Store) → OneTold (λ r. r) (λ (r : Result ⊤ Refusal). told r ≡ look_number d u n s)
   pub view_refused : (m : List ℕ) (a : ℕ) → OneTold (λ r. r) (λ (r : Result ⊤ Refusal). told r ≡ made_number m a)
   pub pick_refused : (d : Drives) (n p : ℕ) (s : State) → OneTold (λ x. x) (λ (x : Result ⊤ Refusal × State). PickGives d n p s (told x.0) x.1)
+  -- a part that is lent on: its elements are those that the contract names
+  pub lent_part : {A : Type 0} (f : List A) → OneTold (λ x. x.now) (λ (r : Bor (List A)). r.now ≡ f)
   pub disks_lent_on : (s : LentStore) → OneTold lent_bytes (λ (x : LentDisks). disks_of x s)
